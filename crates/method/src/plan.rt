@@ -4,7 +4,7 @@ ghost use Prim.Native.Nat.{_≤_};
 ghost use mathlib.Core.Path.{_≡_};
 
 // A plan's answers depend on the observation number alone, and are the same each time.
-pub trait Plan {
+pub trait Plan: Copy {
     ghost meaning: { Self → Meaning };
 
     law ranged: { (p : Self) → Ranged (meaning p) };

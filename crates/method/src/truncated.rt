@@ -15,7 +15,6 @@ use crate::plan::Plan;
 use crate::plan::is_within;
 use crate::question::Question;
 
-#[derive(Drop)]
 pub struct Truncated<P: Plan> {
     plan: P,
     cut: u32,
@@ -25,7 +24,9 @@ pub struct Truncated<P: Plan> {
     ghost few: { «cut_number» ≤ cut },
 }
 
-impl<P: Plan + Drop> Truncated<P> {
+impl<P: Plan> Copy for Truncated<P> {}
+
+impl<P: Plan> Truncated<P> {
     // The plan cut at `cut`, where an attempt is fit with at most `cut_number` out.
     pub fn new(plan: P, cut: i32, cut_number: i32) -> Result<Truncated<P>, Question>
         ensures refuses { λ r. ⌜ refused-by r ≡ truncation-refusal (P·Plan .meaning plan) cut «cut_number» ⌝ }
