@@ -1,6 +1,7 @@
 -- Truncation, the standard controls, and three-step control.
 use Prim.Native.Nat.{ℕ, _*_}
 use mathlib.Core.Bool.{cond}
+use mathlib.Core.Path.{_≡_}
 use lib.Dec.{eqb}
 use lib.IntN.{ℤ, pos, subℕ}
 use Rattle.method.specs.Lines.{line, numbers-of}
@@ -19,6 +20,21 @@ truncated m cut number = record {
   trapezoid = m .trapezoid;
   uniform = m .uniform;
 }
+
+-- a truncation that was asked for holds the plan p and the numbers c and n
+abbrev pub Holds : {P : Type 0} → P → ℤ → ℤ → P → ℕ → ℕ → Type 0
+Holds plan cut number p c n = (p ≡ plan) × (pos c ≡ cut) × (pos n ≡ number)
+
+-- the same answers at every observation number
+pub record Alike (m w : Meaning) : Type 0 where
+  pub cut : m .cut ≡ w .cut
+  pub cut-number : m .cut-number ≡ w .cut-number
+  pub accept : (i : ℕ) → m .accept i ≡ w .accept i
+  pub reject : (i : ℕ) → m .reject i ≡ w .reject i
+  pub offset : (i : ℕ) → m .offset i ≡ w .offset i
+  pub margin : m .margin ≡ w .margin
+  pub trapezoid : m .trapezoid ≡ w .trapezoid
+  pub uniform : m .uniform ≡ w .uniform
 
 abbrev pub strengthened-control : Meaning
 strengthened-control = truncated (line (numbers-of Strengthened)) 44 2

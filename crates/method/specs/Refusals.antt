@@ -7,7 +7,6 @@ use Rattle.std.specs.declared.option.Option.the-variants.{Some, None}
 use Rattle.std.specs.declared.result.Result.{Result}
 use Rattle.std.specs.declared.result.Result.the-variants.{Ok, Err}
 use Prim.Native.Nat.{ℕ}
-use Rattle.method.specs.Meaning.{Meaning}
 use Rattle.method.specs.declared.question.Question.{Question}
 use Rattle.method.specs.declared.question.Question.the-variants.{TruncationCutInRange, TruncationNumberInRange}
 
@@ -25,7 +24,7 @@ abbrev pub between : ℤ → ℤ → ℤ → Bool
 between low high z = leZ low z && leZ z high
 
 -- a cut from 2 to the cut beneath, then a cut number from 0 to the new cut
-abbrev pub truncation-refusal : Meaning → ℤ → ℤ → Option Question
-truncation-refusal m cut number =
-    asks (between (pos 2) (pos (m .cut)) cut) TruncationCutInRange
+abbrev pub truncation-refusal : ℕ → ℤ → ℤ → Option Question
+truncation-refusal beneath cut number =
+    asks (between (pos 2) (pos beneath) cut) TruncationCutInRange
     (asks (between (pos 0) cut number) TruncationNumberInRange None)

@@ -1,10 +1,9 @@
 // Any plan with a cut and a cut number of its own.
 ghost use Prim.Native.Nat.{_≤_};
 ghost use Rattle.method.specs.Lines.{line, numbers-of};
-ghost use Rattle.method.specs.Plans.{normal-control, strengthened-control, truncated};
+ghost use Rattle.method.specs.Plans.{Alike, Holds, normal-control, strengthened-control, truncated};
 ghost use Rattle.method.specs.Refusals.{refused-by, truncation-refusal};
 ghost use Rattle.std.specs.Vec.{made};
-ghost use lib.IntN.{pos};
 ghost use mathlib.Core.Path.{_≡_};
 use crate::line::Line;
 use crate::line::LinePlan;
@@ -26,23 +25,43 @@ pub struct Truncated<P: Plan> {
 
 impl<P: Plan> Copy for Truncated<P> {}
 
+// The plan cut at `cut`, no later than `beneath`.
+fn cut_at<P: Plan>(plan: P, beneath: u32, cut: i32, cut_number: i32) -> Result<Truncated<P>, Question>
+    requires { ⌜ beneath ≤ 48 ⌝ }
+    ensures refuses { λ r. ⌜ refused-by r ≡ truncation-refusal beneath cut «cut_number» ⌝ }
+    ensures makes { λ r. ⌜ made r (λ t. Holds plan cut «cut_number» (t .plan) (t .cut) (t .«cut_number»)) ⌝ }
+    ensures earlier { λ r. ⌜ made r (λ t. t .cut ≤ beneath) ⌝ }
+{
+    if cut < 2 || cut > beneath as i32 {
+        return Err(Question::TruncationCutInRange);
+    }
+    if cut_number < 0 || cut_number > cut {
+        return Err(Question::TruncationNumberInRange);
+    }
+    Ok(Truncated {
+        plan,
+        cut: cut as u32,
+        cut_number: cut_number as u32,
+    })
+}
+
 impl<P: Plan> Truncated<P> {
     // The plan cut at `cut`, where an attempt is fit with at most `cut_number` out.
     pub fn new(plan: P, cut: i32, cut_number: i32) -> Result<Truncated<P>, Question>
-        ensures refuses { λ r. ⌜ refused-by r ≡ truncation-refusal (P·Plan .meaning plan) cut «cut_number» ⌝ }
-        ensures makes { λ r. ⌜ made r (λ t. (t .plan ≡ plan) × (pos (t .cut) ≡ cut) × (pos (t .«cut_number») ≡ «cut_number»)) ⌝ }
+        ensures refuses { λ r. ⌜ refused-by r ≡ truncation-refusal (P·Plan .meaning plan .cut) cut «cut_number» ⌝ }
+        ensures makes { λ r. ⌜ made r (λ t. Holds plan cut «cut_number» (t .plan) (t .cut) (t .«cut_number»)) ⌝ }
     {
-        if cut < 2 || cut > plan.cut() as i32 {
-            return Err(Question::TruncationCutInRange);
-        }
-        if cut_number < 0 || cut_number > cut {
-            return Err(Question::TruncationNumberInRange);
-        }
-        Ok(Truncated {
-            plan,
-            cut: cut as u32,
-            cut_number: cut_number as u32,
-        })
+        let beneath = plan.cut();
+        cut_at(plan, beneath, cut, cut_number)
+    }
+
+    // A truncation of this truncation, which is the same plan cut earlier.
+    pub fn truncate(self, cut: i32, cut_number: i32) -> Result<Truncated<P>, Question>
+        ensures refuses { λ r. ⌜ refused-by r ≡ truncation-refusal (self .cut) cut «cut_number» ⌝ }
+        ensures makes { λ r. ⌜ made r (λ t. Holds (self .plan) cut «cut_number» (t .plan) (t .cut) (t .«cut_number»)) ⌝ }
+        ensures alike { λ r. ⌜ made r (λ t. Alike (truncated (P·Plan .meaning (self .plan)) (t .cut) (t .«cut_number»)) (truncated (truncated (P·Plan .meaning (self .plan)) (self .cut) (self .«cut_number»)) (t .cut) (t .«cut_number»))) ⌝ }
+    {
+        cut_at(self.plan, self.cut, cut, cut_number)
     }
 }
 

@@ -1,0 +1,2 @@
+mod WholeRanges
+mod DigitSteps
