@@ -1,2 +1,3 @@
-mod WholeRanges
+mod ChosenCuts
+mod ChosenRanges
 mod DigitSteps

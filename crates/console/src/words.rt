@@ -1,9 +1,10 @@
 // The words of a line, parted by blanks.
 ghost use Rattle.console.specs.Words.{first-word, of-class, rest-of, unblanked};
-ghost use Rattle.std.specs.Options.{mapped};
+ghost use Rattle.std.specs.Options.{isSome, mapped};
 ghost use Rattle.std.specs.shelf.Lists.{leading};
-ghost use Prim.Native.Nat.{_≤_};
+ghost use Prim.Native.Nat.{_<_, _≤_};
 ghost use lib.ListN.{length};
+ghost use mathlib.Core.Bool.{true};
 ghost use mathlib.Core.Path.{_≡_};
 
 #[derive(Clone, Copy)]
@@ -42,7 +43,8 @@ fn run_of(class: Class, line: &[u8]) -> usize
 
 // The line from its first word on.
 fn skip_blanks(line: &[u8]) -> &[u8]
-    ensures { λ r. ⌜ now r ≡ unblanked (now (line .entry)) ⌝ }
+    ensures is { λ r. ⌜ now r ≡ unblanked (now (line .entry)) ⌝ }
+    ensures within { λ r. ⌜ length (now r) ≤ length (now (line .entry)) ⌝ }
 {
     &line[run_of(Class::Blank, line)..]
 }
@@ -58,6 +60,7 @@ impl<'a> Words<'a> {
     pub fn next(&mut self) -> Option<&'a [u8]>
         ensures word { λ r. ⌜ mapped now r ≡ first-word (now (now (self .entry) .rest)) ⌝ }
         ensures rest { λ r. ⌜ now (now (self .exit) .rest) ≡ rest-of (now (now (self .entry) .rest)) ⌝ }
+        ensures shorter { λ r. ⌜ (isSome r ≡ true → length (now (now (self .exit) .rest)) < length (now (now (self .entry) .rest))) ⌝ }
     {
         let line = skip_blanks(self.rest);
         let length = run_of(Class::Letter, line);

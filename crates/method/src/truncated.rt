@@ -4,6 +4,7 @@ ghost use Rattle.method.specs.Lines.{line, numbers-of};
 ghost use Rattle.method.specs.Plans.{Alike, Holds, normal-control, strengthened-control, truncated};
 ghost use Rattle.method.specs.Refusals.{refused-by, truncation-refusal};
 ghost use Rattle.std.specs.Vec.{made};
+ghost use lib.IntN.{natAbs};
 ghost use mathlib.Core.Path.{_≡_};
 use crate::line::Line;
 use crate::line::LinePlan;
@@ -26,7 +27,12 @@ pub struct Truncated<P: Plan> {
 impl<P: Plan> Copy for Truncated<P> {}
 
 // The plan cut at `cut`, no later than `beneath`.
-fn cut_at<P: Plan>(plan: P, beneath: u32, cut: i32, cut_number: i32) -> Result<Truncated<P>, Question>
+fn cut_at<P: Plan>(
+    plan: P,
+    beneath: u32,
+    cut: i32,
+    cut_number: i32,
+) -> Result<Truncated<P>, Question>
     requires { ⌜ beneath ≤ 48 ⌝ }
     ensures refuses { λ r. ⌜ refused-by r ≡ truncation-refusal beneath cut «cut_number» ⌝ }
     ensures makes { λ r. ⌜ made r (λ t. Holds plan cut «cut_number» (t .plan) (t .cut) (t .«cut_number»)) ⌝ }
@@ -59,7 +65,7 @@ impl<P: Plan> Truncated<P> {
     pub fn truncate(self, cut: i32, cut_number: i32) -> Result<Truncated<P>, Question>
         ensures refuses { λ r. ⌜ refused-by r ≡ truncation-refusal (self .cut) cut «cut_number» ⌝ }
         ensures makes { λ r. ⌜ made r (λ t. Holds (self .plan) cut «cut_number» (t .plan) (t .cut) (t .«cut_number»)) ⌝ }
-        ensures alike { λ r. ⌜ made r (λ t. Alike (truncated (P·Plan .meaning (self .plan)) (t .cut) (t .«cut_number»)) (truncated (truncated (P·Plan .meaning (self .plan)) (self .cut) (self .«cut_number»)) (t .cut) (t .«cut_number»))) ⌝ }
+        ensures alike { λ r. ⌜ made r (λ t. Alike (truncated (P·Plan .meaning (t .plan)) (t .cut) (t .«cut_number»)) (truncated (truncated (P·Plan .meaning (self .plan)) (self .cut) (self .«cut_number»)) (natAbs cut) (natAbs «cut_number»))) ⌝ }
     {
         cut_at(self.plan, self.cut, cut, cut_number)
     }
