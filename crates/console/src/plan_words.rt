@@ -1,6 +1,8 @@
 // Plans by name, by table and by truncation, as they are typed.
 use crate::chosen::ChosenPlan;
 use crate::number::parse_number;
+use crate::plan_name::PlanName;
+use crate::plan_name::name_plan;
 use crate::words::Words;
 use method::Line;
 use method::Question;
@@ -43,34 +45,19 @@ fn parse_within(depth: u32, words: &mut Words) -> Result<ChosenPlan, PlanError> 
     let Some(word) = words.next() else {
         return Err(PlanError::Syntax);
     };
-    if word == b"tabled" {
-        return parse_table(words);
-    }
-    if word == b"truncated" && depth > 0 {
-        let cut = next_number(words)?;
-        let cut_number = next_number(words)?;
-        return Ok(parse_within(depth - 1, words)?.truncate(cut, cut_number)?);
-    }
-    match by_name(word) {
-        Some(plan) => Ok(plan),
-        None => Err(PlanError::Syntax),
-    }
-}
-
-// A plan that a single word names.
-fn by_name(word: &[u8]) -> Option<ChosenPlan> {
-    if word == b"strengthened" {
-        Some(ChosenPlan::strengthened())
-    } else if word == b"normal" {
-        Some(ChosenPlan::normal())
-    } else if word == b"three-step" {
-        Some(ChosenPlan::Short(ThreeStep))
-    } else if word == b"line-strengthened" {
-        Some(ChosenPlan::Line(Line::Strengthened))
-    } else if word == b"line-normal" {
-        Some(ChosenPlan::Line(Line::Normal))
-    } else {
-        None
+    match name_plan(word) {
+        Some(PlanName::Strengthened) => Ok(ChosenPlan::strengthened()),
+        Some(PlanName::Normal) => Ok(ChosenPlan::normal()),
+        Some(PlanName::ThreeStep) => Ok(ChosenPlan::Short(ThreeStep)),
+        Some(PlanName::LineStrengthened) => Ok(ChosenPlan::Line(Line::Strengthened)),
+        Some(PlanName::LineNormal) => Ok(ChosenPlan::Line(Line::Normal)),
+        Some(PlanName::Tabled) => parse_table(words),
+        Some(PlanName::Truncated) if depth > 0 => {
+            let cut = next_number(words)?;
+            let cut_number = next_number(words)?;
+            Ok(parse_within(depth - 1, words)?.truncate(cut, cut_number)?)
+        }
+        _ => Err(PlanError::Syntax),
     }
 }
 
