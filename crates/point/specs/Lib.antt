@@ -1,0 +1,6 @@
+pub mod Settings
+pub mod Levels
+pub mod Trials
+pub mod Ends
+pub mod Phases
+pub mod Bounds
