@@ -1,0 +1,3 @@
+pub mod Errors
+pub mod Tolerances
+pub mod Attempts
