@@ -1,6 +1,7 @@
 -- An attempt: its numbers, and how it ends.
 use Prim.Native.Nat.{ℕ, _+_, _*_, _≤_}
 use mathlib.Core.Bool.{Bool, true, false, cond, _||_}
+use mathlib.Core.Path.{_≡_}
 use lib.Dec.{leb}
 use lib.IntN.{ℤ, pos, natAbs, _+ℤ_}
 use lib.Signed.{leZ}
@@ -51,3 +52,7 @@ verdict-at m n x ok =
 abbrev pub verdict-of : Meaning → ℕ → Tally → ℤ → Option Verdict
 verdict-of m d t e =
     verdict-at m (t .observations + 1) (after m d t e .outs) (in-tolerance (m .margin) d e)
+
+-- after the error e the numbers are u, and the attempt's end is v
+abbrev pub Observed : Meaning → ℕ → Tally → ℤ → Tally → Option Verdict → Type 0
+Observed m d t e u v = (u ≡ after m d t e) × (v ≡ verdict-of m d t e)

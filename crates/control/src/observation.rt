@@ -86,6 +86,7 @@ pub fn observed<P: Plan>(
     ensures tally { λ r. ⌜ r .0 ≡ after (meaning (now (plan .entry))) width tally error ⌝ }
     ensures verdict { λ r. ⌜ r .1 ≡ verdict-of (meaning (now (plan .entry))) width tally error ⌝ }
     ensures sound { λ r. ⌜ Sound (r .0) ⌝ }
+    ensures count { λ r. ⌜ r .0 .observations ≡ tally .observations + 1 ⌝ }
     ensures room { λ r. ⌜ (r .1 ≡ None → r .0 .observations < 48) ⌝ }
 {
     let in_tolerance = is_in_tolerance(plan.margin(), width, error);
