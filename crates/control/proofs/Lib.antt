@@ -1,1 +1,4 @@
 mod Products
+mod TallySteps
+mod EndsFirst
+mod RunSteps

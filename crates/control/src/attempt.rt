@@ -21,7 +21,7 @@ pub struct Attempt {
     pub(crate) tally: Tally,
     pub(crate) tolerance: Tolerance,
     ghost sound: { Sound tally },
-    ghost open: { tally .observations < 48 },
+    ghost room: { tally .observations < 48 },
 }
 
 // An attempt that has ended, with its last observation.
@@ -45,7 +45,7 @@ pub enum Progress {
 pub(crate) fn as_progress(tolerance: Tolerance, tally: Tally, verdict: Option<Verdict>) -> Progress
     requires sound { ⌜ Sound tally ⌝ }
     requires some { ⌜ (isSome verdict ≡ true → 1 ≤ tally .observations) ⌝ }
-    requires open { ⌜ (verdict ≡ None → tally .observations < 48) ⌝ }
+    requires room { ⌜ (verdict ≡ None → tally .observations < 48) ⌝ }
     ensures { λ r. ⌜ elim r [ Progress.GoesOn a ↦ (a .tally ≡ tally) × (None ≡ verdict) × (a .tolerance ≡ tolerance) | Progress.Ended f ↦ (f .tally ≡ tally) × (Some (f .verdict) ≡ verdict) × (f .tolerance ≡ tolerance) ] ⌝ }
 {
     match verdict {

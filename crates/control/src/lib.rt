@@ -5,6 +5,7 @@ mod ending;
 mod errors;
 mod observation;
 mod permitted;
+mod sequences;
 mod statistics;
 mod tally;
 mod tolerance;
