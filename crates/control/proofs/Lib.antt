@@ -2,3 +2,5 @@ mod Products
 mod TallySteps
 mod EndsFirst
 mod RunSteps
+mod SmallerErrors
+mod Foresight

@@ -3,5 +3,7 @@ pub mod Tolerances
 pub mod Attempts
 pub mod Statistics
 pub mod Firsts
-pub mod Sequences
 pub mod Tallies
+pub mod Sequences
+pub mod Steadiness
+pub mod Prospects
