@@ -4,3 +4,4 @@ mod EndsFirst
 mod RunSteps
 mod SmallerErrors
 mod Foresight
+mod SettlesFirst

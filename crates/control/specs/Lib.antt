@@ -7,3 +7,4 @@ pub mod Tallies
 pub mod Sequences
 pub mod Steadiness
 pub mod Prospects
+pub mod Settlings
