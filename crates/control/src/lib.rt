@@ -30,6 +30,7 @@ pub use permitted::Permitted;
 pub use sequences::sequence;
 pub use settling::Settlement;
 pub use settling::Settling;
+pub use settling::settle;
 pub use settling::settled_with;
 pub use soonest::soonest_fit;
 pub use statistics::is_dominant;

@@ -123,3 +123,31 @@ impl Settling {
         }
     }
 }
+
+// The codes one by one, until settling ends or none is left.
+fn settle_through(agreement: u32, codes: &[i32]) -> Option<Settled>
+    ensures { λ r. ⌜ r ≡ settling agreement no-codes (now (codes .entry)) ⌝ }
+{
+    let mut latest = NO_CODES;
+    for code in codes {
+        let (after, by) = settled_with(agreement, latest, *code);
+        if let Some(by) = by {
+            return Some(Settled {
+                by,
+                codes: after.count,
+            });
+        }
+        latest = after;
+    }
+    None
+}
+
+// Where and how settling over these codes ends, if they bring it to its end.
+pub fn settle(agreement: i32, codes: &[i32]) -> Result<Option<Settled>, Question>
+    ensures refuses { λ r. ⌜ refused-by r ≡ agreement-refusal agreement ⌝ }
+    ensures is { λ r. ⌜ made r (λ s. s ≡ settling (natAbs agreement) no-codes (now (codes .entry))) ⌝ }
+    ensures first { λ r. ⌜ made r (λ s. Settles-first (natAbs agreement) (now (codes .entry)) s) ⌝ }
+{
+    let new = Settling::new(agreement)?;
+    Ok(settle_through(new.agreement, codes))
+}
