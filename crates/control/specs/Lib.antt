@@ -8,3 +8,4 @@ pub mod Sequences
 pub mod Steadiness
 pub mod Prospects
 pub mod Settlings
+pub mod Examples
