@@ -56,6 +56,14 @@ module _ (m : Meaning) (d : ℕ) (es : List ℤ) where
   pub ends-first : Ends-first m d es (sequence-end m d es)
   ends-first = from (length es) 0 (omega arith) (λ k low high. absurd (omega arith))
 
+-- the law of what a call returned
+pub first-of : (m : Meaning) (d : ℕ) (es : List ℤ) (r : Option Ending) → r ≡ sequence-end m d es → Ends-first m d es r
+first-of m d es r e = subst (Ends-first m d es) (sym e) (ends-first m d es)
+
+-- an end found with a tolerance w that is d
+pub same-end : (m : Meaning) (es : List ℤ) (w d : ℕ) (o : Option Ending) → w ≡ d → o ≡ sequence-end m w es → (r : Option Ending) → r ≡ o → r ≡ sequence-end m d es
+same-end m es w d o e q r k = k ∙ q ∙ ap (λ x. sequence-end m x es) e
+
 at-cut : (m : Meaning) (x : ℕ) (ok : Bool) → verdict-at m (m .cut) x ok ≡ None → ⊥
 at-cut m x ok e = grind (arith, tells)
 

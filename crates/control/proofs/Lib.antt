@@ -1,7 +1,7 @@
 mod Products
-mod TallySteps
-mod EndsFirst
+pub mod TallySteps
+pub mod EndsFirst
 mod RunSteps
-mod SmallerErrors
-mod Foresight
-mod SettlesFirst
+pub mod SmallerErrors
+pub mod Foresight
+pub mod SettlesFirst

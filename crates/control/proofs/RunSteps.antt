@@ -22,6 +22,10 @@ use Rattle.control.specs.declared.ending.Ending.{Ending}
 use Rattle.control.specs.declared.tally.Tally.{Tally}
 use Rattle.control.proofs.TallySteps.{tally-more}
 
+-- an attempt that has ended does not go on
+pub not-over : {A : Type 0} (o : Option Verdict) → isSome o ≡ true → o ≡ None → A
+not-over o k n = absurd (true≢false (sym k ∙ ap isSome n))
+
 -- what the loop keeps
 pub record Going (m : Meaning) (d : ℕ) (t : Tally) (es : List ℤ) (i : ℕ) : Type 0 where
   pub sound : Sound t

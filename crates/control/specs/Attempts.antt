@@ -41,12 +41,16 @@ Sound t =
 abbrev pub fit-if : Bool → Verdict
 fit-if b = cond b Fit Unfit
 
--- Observation n, with x out by then. In tolerance it is fit by the accept number, and out it is unfit by the reject number.
--- Where neither ends the attempt, the cut number does at the cut.
+-- at the cut the cut number decides, and before it the attempt goes on
+abbrev pub cut-verdict : Meaning → ℕ → ℕ → Option Verdict
+cut-verdict m n x = cond (leb (m .cut) n) (Some (fit-if (leb x (m .cut-number)))) None
+
+-- Observation n, with x out by then: in tolerance the accept number makes the attempt fit, out of it the reject number
+-- makes it unfit, and where that does not end it the cut may.
 abbrev pub verdict-at : Meaning → ℕ → ℕ → Bool → Option Verdict
 verdict-at m n x ok =
-    cond (cond ok (leZ (pos x) (m .accept n)) (leb (m .reject n) x)) (Some (fit-if ok))
-    (cond (leb (m .cut) n) (Some (fit-if (leb x (m .cut-number)))) None)
+    cond ok (cond (leZ (pos x) (m .accept n)) (Some Fit) (cut-verdict m n x))
+    (cond (leb (m .reject n) x) (Some Unfit) (cut-verdict m n x))
 
 -- what the attempt's next observation, of the error e, says
 abbrev pub verdict-of : Meaning → ℕ → Tally → ℤ → Option Verdict

@@ -11,7 +11,7 @@ use Rattle.method.specs.Meaning.{Meaning}
 use Rattle.method.specs.declared.verdict.Verdict.{Verdict}
 use Rattle.control.specs.Attempts.{verdict-at}
 use Rattle.control.specs.Firsts.{Quiet, First-at}
-use Rattle.control.specs.Tallies.{outs}
+use Rattle.control.specs.Tallies.{outs, tally-of}
 use Rattle.control.specs.Tolerances.{in-tolerance}
 use Rattle.control.specs.declared.ending.Ending.{Ending}
 use Rattle.control.specs.declared.tally.Tally.{Tally}
@@ -50,3 +50,10 @@ Ends-by-cut m es r = m .cut ≤ length es → (e : Ending) × (r ≡ Some e) × 
 abbrev pub ending-of : Tally → Option Verdict → Option Ending
 ending-of t None = None
 ending-of t (Some v) = Some (record { verdict = v; at = t .observations })
+
+-- These errors bring a new attempt to the numbers t: all of them, where it has not ended, or else those up to its end.
+abbrev pub Brought : Meaning → ℕ → List ℤ → Tally → Option Verdict → Type 0
+Brought m d es t None = (t ≡ tally-of m d es) × (sequence-end m d es ≡ None)
+Brought m d es t (Some v) =
+    (t ≡ tally-of m d (take (t .observations) es))
+    × (sequence-end m d es ≡ Some (record { verdict = v; at = t .observations }))

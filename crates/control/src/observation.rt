@@ -75,12 +75,7 @@ fn verdict_with<P: Plan>(plan: &P, n: u32, x: u32, in_tolerance: bool) -> Option
 }
 
 // An attempt's numbers with one error more, and the attempt's end if that brings it.
-pub fn observed<P: Plan>(
-    plan: &P,
-    width: u32,
-    tally: Tally,
-    error: i32,
-) -> (Tally, Option<Verdict>)
+pub fn observed<P: Plan>(plan: &P, width: u32, tally: Tally, error: i32) -> (Tally, Option<Verdict>)
     requires sound { ⌜ Sound tally ⌝ }
     requires room { ⌜ tally .observations < 48 ⌝ }
     ensures tally { λ r. ⌜ r .0 ≡ after (meaning (now (plan .entry))) width tally error ⌝ }

@@ -1,7 +1,7 @@
 // An attempt's sequence over a list of errors.
 ghost use Prim.Native.Nat.{_<_, _≤_};
 ghost use Rattle.control.specs.Attempts.{Sound};
-ghost use Rattle.control.specs.Sequences.{Ends-by-cut, Ends-first, ending-of, sequence-end};
+ghost use Rattle.control.specs.Sequences.{Brought, Ends-by-cut, Ends-first, ending-of, sequence-end};
 ghost use Rattle.control.specs.Tallies.{tally-of};
 ghost use Rattle.control.specs.Tolerances.{width as width-under};
 ghost use Rattle.std.specs.Options.{isSome};
@@ -74,7 +74,7 @@ pub fn sequence<P: Plan>(
 impl Attempt {
     // A new attempt, brought by these errors to its end or as far as they go. Its numbers are those of the errors observed.
     pub fn over<P: Plan>(plan: &P, tolerance: Tolerance, errors: &[i32]) -> Progress
-        ensures { λ r. ⌜ elim r [ Progress.GoesOn a ↦ (a .tally ≡ tally-of (meaning (now (plan .entry))) (tolerance .width) (now (errors .entry))) × (None ≡ sequence-end (meaning (now (plan .entry))) (tolerance .width) (now (errors .entry))) × (a .tolerance ≡ tolerance) | Progress.Ended f ↦ (f .tally ≡ tally-of (meaning (now (plan .entry))) (tolerance .width) (take (f .tally .observations) (now (errors .entry)))) × (ending-of (f .tally) (Some (f .verdict)) ≡ sequence-end (meaning (now (plan .entry))) (tolerance .width) (now (errors .entry))) × (f .tolerance ≡ tolerance) ] ⌝ }
+        ensures { λ r. ⌜ elim r [ Progress.GoesOn a ↦ Brought (meaning (now (plan .entry))) (tolerance .width) (now (errors .entry)) (a .tally) None × (a .tolerance ≡ tolerance) | Progress.Ended f ↦ Brought (meaning (now (plan .entry))) (tolerance .width) (now (errors .entry)) (f .tally) (Some (f .verdict)) × (f .tolerance ≡ tolerance) ] ⌝ }
     {
         let (tally, verdict) = run_through(plan, tolerance.width, errors);
         as_progress(tolerance, tally, verdict)

@@ -1,6 +1,6 @@
 use borrow.Author.Needs.{needs}
 use native.Mathlib.Omega.{arith}
-use mathlib.Core.Path.{_≡_, sym, _∙_, ap}
+use mathlib.Core.Path.{_≡_, sym}
 use mathlib.Core.Bool.{true, false}
 use Prim.Native.Nat.{_≤_}
 use lib.IntN.{pos}
@@ -10,7 +10,7 @@ use mir.Val.{SFits}
 use Rattle.std.specs.Options.{isSome}
 use Rattle.std.proofs.shelf.Signed.{toZ-ofZ}
 use Rattle.std.proofs.shelf.Tests.{true≢false}
-use Rattle.control.proofs.RunSteps.{stops, goes, going-on, over, listed-whole, listed-all, counted-all}
+use Rattle.control.proofs.RunSteps.{stops, goes, going-on, not-over, over, listed-whole, listed-all, counted-all}
 use Rattle.control.proofs.sequences.run_through.Needs as need
 
 pub observed-verdict-requires : need.observed-verdict-requires
@@ -28,7 +28,7 @@ returns-then-is-some g c =
     record {
       ends = stops m (c .args .width) (c .loop-error .tally) (c .args .errors .now) (c .loop-error .error-index) (c .loop-error-test .taken) (c .loop-error .inv) _ (toZ-ofZ w32 z f) (c .observed-verdict .result .0) (e .tally) (c .observed-verdict .result .1) k (e .verdict);
       tally = listed-whole m (c .args .width) (c .loop-error .tally) (c .args .errors .now) (c .loop-error .error-index) (c .loop-error-test .taken) (c .loop-error .inv) _ (toZ-ofZ w32 z f) (c .observed-verdict .result .0) (e .tally);
-      whole = λ n. absurd (true≢false (sym k ∙ ap isSome n));
+      whole = not-over (c .observed-verdict .result .1) k;
       sound = e .sound;
       some = λ _. omega (arith, e .count);
       room = e .room;
