@@ -1,6 +1,6 @@
 // How the reference's error is taken to be distributed, which chooses a plan's coefficient.
 
-#[derive(Clone, Copy, PartialEq, Eq, Debug)]
+#[derive(Clone, Copy)]
 pub enum Distribution {
     Trapezoid,
     Uniform,
