@@ -18,7 +18,7 @@ use Rattle.method.specs.declared.verdict.Verdict.{Verdict}
 use Rattle.control.specs.Attempts.{verdict-at}
 use Rattle.control.specs.Firsts.{Quiet, First-at}
 use Rattle.control.specs.Sequences.{run, or-later, sequence-end, verdict-after, Ends-first, Ends-by-cut}
-use Rattle.control.specs.Tallies.{outs}
+use Rattle.control.specs.Tallies.{count-out}
 use Rattle.control.specs.Tolerances.{in-tolerance}
 use Rattle.control.specs.declared.ending.Ending.{Ending}
 use Rattle.control.proofs.TallySteps.{outs-more}
@@ -28,25 +28,25 @@ quiet-more f i q e k low high = ⊎-elim (λ s. ap f s ∙ e) (λ n. q k low (om
 
 module _ (m : Meaning) (d : ℕ) (es : List ℤ) where
   -- what the plan says at i + 1, from the errors before
-  pub verdict-more : (i : ℕ) → i < length es → verdict-after m d es (i + 1) ≡ verdict-at m (i + 1) (outs m d (take i es) + cond (in-tolerance (m .margin) d (getD es i (pos 0))) 0 1) (in-tolerance (m .margin) d (getD es i (pos 0)))
+  pub verdict-more : (i : ℕ) → i < length es → verdict-after m d es (i + 1) ≡ verdict-at m (i + 1) (count-out m d (take i es) + cond (in-tolerance (m .margin) d (getD es i (pos 0))) 0 1) (in-tolerance (m .margin) d (getD es i (pos 0)))
   verdict-more i h =
       let back : i + 1 - 1 ≡ i = omega arith in
-      ap (λ k. verdict-at m (i + 1) (outs m d (take (i + 1) es)) (in-tolerance (m .margin) d (getD es k (pos 0)))) back
+      ap (λ k. verdict-at m (i + 1) (count-out m d (take (i + 1) es)) (in-tolerance (m .margin) d (getD es k (pos 0)))) back
       ∙ ap (λ x. verdict-at m (i + 1) x (in-tolerance (m .margin) d (getD es i (pos 0)))) (outs-more m d es i h)
 
-  head : (i : ℕ) → i < length es → run m d i (outs m d (take i es)) (drop i es) ≡ or-later (verdict-after m d es (i + 1)) (i + 1) (run m d (i + 1) (outs m d (take (i + 1) es)) (drop (i + 1) es))
+  head : (i : ℕ) → i < length es → run m d i (count-out m d (take i es)) (drop i es) ≡ or-later (verdict-after m d es (i + 1)) (i + 1) (run m d (i + 1) (count-out m d (take (i + 1) es)) (drop (i + 1) es))
   head i h =
-      at-drop-more (run m d i (outs m d (take i es))) es i (pos 0) h
-      ∙ ap (λ o. or-later o (i + 1) (run m d (i + 1) (outs m d (take i es) + cond (in-tolerance (m .margin) d (getD es i (pos 0))) 0 1) (drop (i + 1) es))) (sym (verdict-more i h))
+      at-drop-more (run m d i (count-out m d (take i es))) es i (pos 0) h
+      ∙ ap (λ o. or-later o (i + 1) (run m d (i + 1) (count-out m d (take i es) + cond (in-tolerance (m .margin) d (getD es i (pos 0))) 0 1) (drop (i + 1) es))) (sym (verdict-more i h))
       ∙ ap (λ x. or-later (verdict-after m d es (i + 1)) (i + 1) (run m d (i + 1) x (drop (i + 1) es))) (sym (outs-more m d es i h))
 
   step : (o : Option Verdict) (i : ℕ) (rest : Option Ending) → i + 1 ≤ length es → verdict-after m d es (i + 1) ≡ o → Quiet (verdict-after m d es) i → (Quiet (verdict-after m d es) (i + 1) → Ends-first m d es rest) → Ends-first m d es (or-later o (i + 1) rest)
   step (Some v) i rest h e q next = (omega arith, h, e, λ k low high. q k low (omega arith))
   step None i rest h e q next = next (quiet-more (verdict-after m d es) i q e)
 
-  from : (count i : ℕ) → i + count ≡ length es → Quiet (verdict-after m d es) i → Ends-first m d es (run m d i (outs m d (take i es)) (drop i es))
+  from : (count i : ℕ) → i + count ≡ length es → Quiet (verdict-after m d es) i → Ends-first m d es (run m d i (count-out m d (take i es)) (drop i es))
   from zero i h q =
-      subst (Ends-first m d es) (sym (at-drop-all (run m d i (outs m d (take i es))) es i (omega (arith, add-zero i))))
+      subst (Ends-first m d es) (sym (at-drop-all (run m d i (count-out m d (take i es))) es i (omega (arith, add-zero i))))
       (λ k low high. q k low (omega (arith, add-zero i)))
   from (suc count) i h q =
       let lt : i < length es = omega arith in

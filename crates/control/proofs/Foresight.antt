@@ -17,7 +17,7 @@ use Rattle.control.specs.Attempts.{verdict-at}
 use Rattle.control.specs.Tolerances.{in-tolerance}
 use Rattle.control.specs.Sequences.{run, or-later}
 use Rattle.control.specs.Steadiness.{Ends}
-use Rattle.control.specs.Prospects.{All-in, Foretells, could-end, first-end, soonest}
+use Rattle.control.specs.Prospects.{All-in, Foretells, could-end, first-end, soonest-fit}
 use Rattle.control.specs.declared.ending.Ending.{Ending}
 use Rattle.method.specs.declared.verdict.Verdict.{Verdict}
 use Rattle.method.specs.declared.verdict.Verdict.the-variants.{Fit, Unfit}
@@ -112,8 +112,8 @@ first-is m x n (suc count) up down =
     (λ no. rw no (skip m n x (first-end m x (n + 1 + 1) count) no rest))
     (cases-bool (could-end m x (n + 1)))
 
-pub soonest-is : (m : Meaning) (n x r : ℕ) → Least m n x r → r ≡ soonest m n x
+pub soonest-is : (m : Meaning) (n x r : ℕ) → Least m n x r → r ≡ soonest-fit m n x
 soonest-is m n x r s =
     let down : (n + (m .cut - n) ≤ m .cut) ⊎ (m .cut - n ≡ 0) =
     ⊎-elim (λ h. inl (omega arith)) (λ h. inr (omega arith)) (cases-lt n (m .cut)) in
-    unique m n x r (soonest m n x) s (first-is m x n (m .cut - n) (omega arith) down)
+    unique m n x r (soonest-fit m n x) s (first-is m x n (m .cut - n) (omega arith) down)

@@ -14,7 +14,7 @@ use Rattle.std.proofs.shelf.Tests.{true≢false}
 use Rattle.std.proofs.shelf.Ways.{tells}
 use Rattle.method.specs.Meaning.{Meaning}
 use Rattle.method.specs.declared.verdict.Verdict.{Verdict}
-use Rattle.control.specs.Attempts.{after, verdict-at, verdict-of, Sound}
+use Rattle.control.specs.Attempts.{tally-after, verdict-at, verdict-of, Sound}
 use Rattle.control.specs.Sequences.{run, or-later, ending-of, sequence-end}
 use Rattle.control.specs.Tallies.{tally-of}
 use Rattle.control.specs.Tolerances.{in-tolerance}
@@ -36,14 +36,14 @@ pub record Going (m : Meaning) (d : ℕ) (t : Tally) (es : List ℤ) (i : ℕ) :
 before-cut : (m : Meaning) (n x : ℕ) (ok : Bool) → None ≡ verdict-at m n x ok → n < m .cut
 before-cut m n x ok e = grind (arith, tells)
 
-module _ (m : Meaning) (d : ℕ) (t : Tally) (es : List ℤ) (i : ℕ) (h : i < length es) (g : Going m d t es i) (z : ℤ) (q : z ≡ getD es i (pos 0)) (u : Tally) (a : u ≡ after m d t z) where
-  turn : sequence-end m d es ≡ or-later (verdict-of m d t z) (t .observations + 1) (run m d (t .observations + 1) (after m d t z .outs) (drop (i + 1) es))
+module _ (m : Meaning) (d : ℕ) (t : Tally) (es : List ℤ) (i : ℕ) (h : i < length es) (g : Going m d t es i) (z : ℤ) (q : z ≡ getD es i (pos 0)) (u : Tally) (a : u ≡ tally-after m d t z) where
+  turn : sequence-end m d es ≡ or-later (verdict-of m d t z) (t .observations + 1) (run m d (t .observations + 1) (tally-after m d t z .outs) (drop (i + 1) es))
   turn =
       g .comes ∙ at-drop-more (run m d (t .observations) (t .outs)) es i (pos 0) h
-      ∙ ap (λ y. or-later (verdict-of m d t y) (t .observations + 1) (run m d (t .observations + 1) (after m d t y .outs) (drop (i + 1) es))) (sym q)
+      ∙ ap (λ y. or-later (verdict-of m d t y) (t .observations + 1) (run m d (t .observations + 1) (tally-after m d t y .outs) (drop (i + 1) es))) (sym q)
 
   pub listed-more : u ≡ tally-of m d (take (i + 1) es)
-  listed-more = a ∙ ap (λ y. after m d t y) q ∙ ap (λ y. after m d y (getD es i (pos 0))) (g .listed) ∙ tally-more m d es i h
+  listed-more = a ∙ ap (λ y. tally-after m d t y) q ∙ ap (λ y. tally-after m d y (getD es i (pos 0))) (g .listed) ∙ tally-more m d es i h
 
   pub counted-more : u .observations ≡ i + 1
   counted-more = ap (λ y. y .observations) listed-more ∙ length-take-le (i + 1) es (omega arith)
@@ -55,7 +55,7 @@ module _ (m : Meaning) (d : ℕ) (t : Tally) (es : List ℤ) (i : ℕ) (h : i < 
   stops None k e = absurd (true≢false (sym k))
   stops (Some v) k e =
       ap (λ y. Some (record { verdict = v; at = y .observations })) a
-      ∙ ap (λ o. or-later o (t .observations + 1) (run m d (t .observations + 1) (after m d t z .outs) (drop (i + 1) es))) e
+      ∙ ap (λ o. or-later o (t .observations + 1) (run m d (t .observations + 1) (tally-after m d t z .outs) (drop (i + 1) es))) e
       ∙ sym turn
 
   pub going-on : (o : Option Verdict) → isSome o ≡ false → o ≡ verdict-of m d t z → None ≡ verdict-of m d t z
@@ -64,13 +64,13 @@ module _ (m : Meaning) (d : ℕ) (t : Tally) (es : List ℤ) (i : ℕ) (h : i < 
 
   pub goes : None ≡ verdict-of m d t z → Sound u → Going m d u es (i + 1)
   goes e s =
-      let early : t .observations + 1 < m .cut = before-cut m (t .observations + 1) (after m d t z .outs) (in-tolerance (m .margin) d z) e in
+      let early : t .observations + 1 < m .cut = before-cut m (t .observations + 1) (tally-after m d t z .outs) (in-tolerance (m .margin) d z) e in
       let same : u .observations ≡ t .observations + 1 = ap (λ y. y .observations) a in record {
         sound = s;
         early = omega arith;
         listed = listed-more;
         comes = turn
-            ∙ ap (λ o. or-later o (t .observations + 1) (run m d (t .observations + 1) (after m d t z .outs) (drop (i + 1) es))) (sym e)
+            ∙ ap (λ o. or-later o (t .observations + 1) (run m d (t .observations + 1) (tally-after m d t z .outs) (drop (i + 1) es))) (sym e)
             ∙ ap (λ y. run m d (y .observations) (y .outs) (drop (i + 1) es)) (sym a);
       }
 

@@ -17,8 +17,8 @@ use Rattle.std.proofs.shelf.Ways.{tells}
 use Rattle.method.specs.Meaning.{Meaning}
 use Rattle.control.specs.Attempts.{verdict-at, fit-if}
 use Rattle.control.specs.Errors.{counted}
-use Rattle.control.specs.Tolerances.{in-tolerance, tolerance, width, coefficient}
-use Rattle.control.specs.Sequences.{run, or-later, sequence-end}
+use Rattle.control.specs.Tolerances.{in-tolerance, tolerance-with, tolerance-under, coefficient}
+use Rattle.control.specs.Sequences.{run, or-later, sequence-under}
 use Rattle.control.specs.Steadiness.{Ends, Leads, No-worse, Nearer, Eased, Steady}
 use Rattle.control.specs.declared.distribution.Distribution.{Distribution}
 use Rattle.control.specs.declared.ending.Ending.{Ending}
@@ -96,16 +96,16 @@ led m d b w (e ∷ es) (f ∷ fs) n x y k l near =
     (later m b (n + 1) (y + cond q 0 1) fs)
     (led m d b w es fs (n + 1) (x + cond p 0 1) (y + cond q 0 1) k' (omega arith) (λ i u. near (suc i) (omega arith)))
 
-wider : (k p e q f : ℕ) → p ≤ q → f ≤ e → tolerance k p e ≤ tolerance k q f
+wider : (k p e q f : ℕ) → p ≤ q → f ≤ e → tolerance-with k p e ≤ tolerance-with k q f
 wider k p e q f h g = let t = mul-le k f k e (le-refl k) g in omega arith
 
 pub steady : (m : Meaning) → Steady m
 steady m k p e q f es fs h =
-    led m (width m k p e) (width m k q f) (wider (coefficient m k) p e q f (h .meter) (h .reference)) es fs 0 0 0 (le-refl 0)
+    led m (tolerance-under m k p e) (tolerance-under m k q f) (wider (coefficient m k) p e q f (h .meter) (h .reference)) es fs 0 0 0 (le-refl 0)
     (h .long ∙ sym (h .as-long)) (λ i u. h .nearer i (omega (arith, h .long)))
 
 -- the same of what two calls returned
-pub steady-of : (m : Meaning) (k : Distribution) (p e q f : ℕ) (es fs : List ℤ) (r s : Option Ending) → r ≡ sequence-end m (width m k p e) es → s ≡ sequence-end m (width m k q f) fs → Eased m p e es q f fs → No-worse r s
+pub steady-of : (m : Meaning) (k : Distribution) (p e q f : ℕ) (es fs : List ℤ) (r s : Option Ending) → r ≡ sequence-under m k p e es → s ≡ sequence-under m k q f fs → Eased m p e es q f fs → No-worse r s
 steady-of m k p e q f es fs r s a b h =
     let l = steady m k p e q f es fs h in (
       λ i x. let y = l .0 i (sym a ∙ x) in (y .0, y .1, b ∙ y .2),

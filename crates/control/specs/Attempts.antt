@@ -10,7 +10,7 @@ use Rattle.std.specs.declared.option.Option.the-variants.{Some, None}
 use Rattle.method.specs.Meaning.{Meaning}
 use Rattle.method.specs.declared.verdict.Verdict.{Verdict}
 use Rattle.method.specs.declared.verdict.Verdict.the-variants.{Fit, Unfit}
-use Rattle.control.specs.Errors.{wild, counted}
+use Rattle.control.specs.Errors.{is-wild, counted}
 use Rattle.control.specs.Tolerances.{in-tolerance}
 use Rattle.control.specs.declared.tally.Tally.{Tally}
 
@@ -25,12 +25,12 @@ added t ok e = record {
   outs = t .outs + cond ok 0 1;
   sum = t .sum +ℤ counted e;
   squares = t .squares + natAbs (counted e) * natAbs (counted e);
-  wild = t .wild || wild e;
+  wild = t .wild || is-wild e;
 }
 
 -- the same under a plan, with the tolerance d
-abbrev pub after : Meaning → ℕ → Tally → ℤ → Tally
-after m d t e = added t (in-tolerance (m .margin) d e) e
+abbrev pub tally-after : Meaning → ℕ → Tally → ℤ → Tally
+tally-after m d t e = added t (in-tolerance (m .margin) d e) e
 
 -- how large an attempt's numbers can be
 abbrev pub Sound : Tally → Type 0
@@ -55,8 +55,8 @@ verdict-at m n x ok =
 -- what the attempt's next observation, of the error e, says
 abbrev pub verdict-of : Meaning → ℕ → Tally → ℤ → Option Verdict
 verdict-of m d t e =
-    verdict-at m (t .observations + 1) (after m d t e .outs) (in-tolerance (m .margin) d e)
+    verdict-at m (t .observations + 1) (tally-after m d t e .outs) (in-tolerance (m .margin) d e)
 
 -- after the error e the numbers are u, and the attempt's end is v
 abbrev pub Observed : Meaning → ℕ → Tally → ℤ → Tally → Option Verdict → Type 0
-Observed m d t e u v = (u ≡ after m d t e) × (v ≡ verdict-of m d t e)
+Observed m d t e u v = (u ≡ tally-after m d t e) × (v ≡ verdict-of m d t e)

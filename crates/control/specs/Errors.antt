@@ -6,9 +6,9 @@ use lib.IntN.{ℤ, pos, negsuc, natAbs}
 use lib.Signed.{ltZ}
 
 -- beyond 2,000 in size
-abbrev pub wild : ℤ → Bool
-wild e = ltb 2000 (natAbs e)
+abbrev pub is-wild : ℤ → Bool
+is-wild e = ltb 2000 (natAbs e)
 
 -- a wild error counts as 2,000 with its sign
 abbrev pub counted : ℤ → ℤ
-counted e = cond (wild e) (cond (ltZ e (pos 0)) (negsuc 1999) (pos 2000)) e
+counted e = cond (is-wild e) (cond (ltZ e (pos 0)) (negsuc 1999) (pos 2000)) e

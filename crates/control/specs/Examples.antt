@@ -12,10 +12,10 @@ use Rattle.method.specs.Meaning.{Meaning}
 use Rattle.method.specs.Plans.{strengthened-control, normal-control, three-step}
 use Rattle.method.specs.declared.verdict.Verdict.the-variants.{Fit, Unfit}
 use Rattle.control.specs.Sequences.{sequence-end}
-use Rattle.control.specs.Settlings.{no-codes, settling}
-use Rattle.control.specs.Statistics.{quantity}
+use Rattle.control.specs.Settlings.{no-codes, settling-end}
+use Rattle.control.specs.Statistics.{quantity-verdict}
 use Rattle.control.specs.Tallies.{tally-of}
-use Rattle.control.specs.Tolerances.{in-tolerance, width}
+use Rattle.control.specs.Tolerances.{in-tolerance, tolerance-under}
 use Rattle.control.specs.declared.codes.SettledBy.the-variants.{Agreement}
 use Rattle.control.specs.declared.distribution.Distribution.{Distribution}
 use Rattle.control.specs.declared.distribution.Distribution.the-variants.{Trapezoid, Uniform}
@@ -32,7 +32,7 @@ out-at (suc count) i out = cond (listed i out) (pos 2000) (pos 0) ∷ out-at cou
 
 -- D where the meter's permitted error is 100 tenths and the reference's 20
 abbrev pub usual : Meaning → Distribution → ℕ
-usual m k = width m k 100 20
+usual m k = tolerance-under m k 100 20
 
 -- the end of count observations, out of tolerance at those listed
 abbrev pub ends : Meaning → ℕ → List ℕ → Option Ending
@@ -77,12 +77,12 @@ pub record Examples : Type 0 where
   pub three-step-uniform : Largest three-step Uniform 78
   -- quantity control
   pub skewed-sequence : sequence-end normal-control (usual normal-control Trapezoid) skewed ≡ fit-at 15
-  pub skewed-quantity : quantity (usual normal-control Trapezoid) (tally-of normal-control (usual normal-control Trapezoid) skewed) ≡ Unfit
+  pub skewed-quantity : quantity-verdict (usual normal-control Trapezoid) (tally-of normal-control (usual normal-control Trapezoid) skewed) ≡ Unfit
   pub balanced-sequence : sequence-end normal-control (usual normal-control Trapezoid) balanced ≡ fit-at 15
   pub balanced-sum : tally-of normal-control (usual normal-control Trapezoid) balanced .sum ≡ pos 0
-  pub balanced-quantity : quantity (usual normal-control Trapezoid) (tally-of normal-control (usual normal-control Trapezoid) balanced) ≡ Fit
+  pub balanced-quantity : quantity-verdict (usual normal-control Trapezoid) (tally-of normal-control (usual normal-control Trapezoid) balanced) ≡ Fit
   -- settling within 1 step
-  pub settled-at-four : settling 1 no-codes (pos 10 ∷ pos 11 ∷ pos 12 ∷ pos 12 ∷ []) ≡ Some (record { by = Agreement; codes = 4 })
+  pub settled-at-four : settling-end 1 no-codes (pos 10 ∷ pos 11 ∷ pos 12 ∷ pos 12 ∷ []) ≡ Some (record { by = Agreement; codes = 4 })
   -- the offsets at the first observation, the middle and the cut
   pub strengthened-first : strengthened-control .offset 1 ≡ negsuc 9
   pub strengthened-middle : strengthened-control .offset 22 ≡ pos 11

@@ -23,8 +23,8 @@ first-end m x i zero = 0
 first-end m x i (suc count) = cond (could-end m x i) i (first-end m x (i + 1) count)
 
 -- the first after observation n and up to the cut, or 0
-abbrev pub soonest : Meaning → ℕ → ℕ → ℕ
-soonest m n x = first-end m x (n + 1) (m .cut - n)
+abbrev pub soonest-fit : Meaning → ℕ → ℕ → ℕ
+soonest-fit m n x = first-end m x (n + 1) (m .cut - n)
 
 -- every error is in tolerance
 abbrev pub All-in : Meaning → ℕ → List ℤ → Type 0

@@ -11,8 +11,9 @@ use Rattle.method.specs.Meaning.{Meaning}
 use Rattle.method.specs.declared.verdict.Verdict.{Verdict}
 use Rattle.control.specs.Attempts.{verdict-at}
 use Rattle.control.specs.Firsts.{Quiet, First-at}
-use Rattle.control.specs.Tallies.{outs, tally-of}
-use Rattle.control.specs.Tolerances.{in-tolerance}
+use Rattle.control.specs.Tallies.{count-out, tally-of}
+use Rattle.control.specs.Tolerances.{in-tolerance, tolerance-under}
+use Rattle.control.specs.declared.distribution.Distribution.{Distribution}
 use Rattle.control.specs.declared.ending.Ending.{Ending}
 use Rattle.control.specs.declared.tally.Tally.{Tally}
 
@@ -32,10 +33,14 @@ run m d n x (e ∷ es) =
 abbrev pub sequence-end : Meaning → ℕ → List ℤ → Option Ending
 sequence-end m d es = run m d 0 0 es
 
+-- the same under one of the plan's coefficients, with the permitted errors p of the meter and e of the reference
+abbrev pub sequence-under : Meaning → Distribution → ℕ → ℕ → List ℤ → Option Ending
+sequence-under m k p e es = sequence-end m (tolerance-under m k p e) es
+
 -- what the plan says at observation i of a list, whatever it said before
 abbrev pub verdict-after : Meaning → ℕ → List ℤ → ℕ → Option Verdict
 verdict-after m d es i =
-    verdict-at m i (outs m d (take i es)) (in-tolerance (m .margin) d (getD es (i - 1) (pos 0)))
+    verdict-at m i (count-out m d (take i es)) (in-tolerance (m .margin) d (getD es (i - 1) (pos 0)))
 
 -- It ends at the first observation at which the plan ends it, and nowhere else.
 abbrev pub Ends-first : Meaning → ℕ → List ℤ → Option Ending → Type 0
@@ -46,7 +51,7 @@ Ends-first m d es (Some e) = First-at (verdict-after m d es) (length es) (e .ver
 abbrev pub Ends-by-cut : Meaning → List ℤ → Option Ending → Type 0
 Ends-by-cut m es r = m .cut ≤ length es → (e : Ending) × (r ≡ Some e) × (e .at ≤ m .cut)
 
--- the end of an attempt with these numbers, if it has ended
+-- the end that a verdict makes of an attempt with these numbers
 abbrev pub ending-of : Tally → Option Verdict → Option Ending
 ending-of t None = None
 ending-of t (Some v) = Some (record { verdict = v; at = t .observations })

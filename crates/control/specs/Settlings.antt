@@ -29,8 +29,8 @@ abbrev pub agree : ℕ → ℤ → ℤ → ℤ → Bool
 agree n a b c = near n a b && (near n a c && near n b c)
 
 -- how settling ends with the i-th code, if it does; the latest code is a, and b and c were before it
-abbrev pub settled : ℕ → ℕ → ℤ → ℤ → ℤ → Option SettledBy
-settled n i a b c = cond (leb 3 i && agree n a b c) (Some Agreement) (cond (leb 200 i) (Some LastCode) None)
+abbrev pub settled-at : ℕ → ℕ → ℤ → ℤ → ℤ → Option SettledBy
+settled-at n i a b c = cond (leb 3 i && agree n a b c) (Some Agreement) (cond (leb 200 i) (Some LastCode) None)
 
 -- no settling code yet
 abbrev pub no-codes : Codes
@@ -41,7 +41,7 @@ abbrev pub with-code : Codes → ℤ → Codes
 with-code k c = record { count = k .count + 1; last = c; previous = k .last }
 
 abbrev pub settled-by : ℕ → Codes → ℤ → Option SettledBy
-settled-by n k c = settled n (k .count + 1) c (k .last) (k .previous)
+settled-by n k c = settled-at n (k .count + 1) c (k .last) (k .previous)
 
 -- the end that comes with the i-th code, or else what comes later
 abbrev pub or-settles : Option SettledBy → ℕ → Option Settled → Option Settled
@@ -49,13 +49,13 @@ or-settles (Some b) i rest = Some (record { by = b; codes = i })
 or-settles None i rest = rest
 
 -- the end over the codes to come
-abbrev pub settling : ℕ → Codes → List ℤ → Option Settled
-settling n k [] = None
-settling n k (c ∷ cs) = or-settles (settled-by n k c) (k .count + 1) (settling n (with-code k c) cs)
+abbrev pub settling-end : ℕ → Codes → List ℤ → Option Settled
+settling-end n k [] = None
+settling-end n k (c ∷ cs) = or-settles (settled-by n k c) (k .count + 1) (settling-end n (with-code k c) cs)
 
 -- how the i-th code of a list ends the settling, whatever came before
 abbrev pub settled-after : ℕ → List ℤ → ℕ → Option SettledBy
-settled-after n cs i = settled n i (getD cs (i - 1) (pos 0)) (getD cs (i - 2) (pos 0)) (getD cs (i - 3) (pos 0))
+settled-after n cs i = settled-at n i (getD cs (i - 1) (pos 0)) (getD cs (i - 2) (pos 0)) (getD cs (i - 3) (pos 0))
 
 -- It ends at the first code at which the latest three agree or which is the 200th, and nowhere else.
 abbrev pub Settles-first : ℕ → List ℤ → Option Settled → Type 0

@@ -9,8 +9,7 @@ use Rattle.std.specs.declared.option.Option.the-variants.{Some}
 use Rattle.method.specs.Meaning.{Meaning}
 use Rattle.method.specs.declared.verdict.Verdict.{Verdict}
 use Rattle.method.specs.declared.verdict.Verdict.the-variants.{Fit, Unfit}
-use Rattle.control.specs.Sequences.{sequence-end}
-use Rattle.control.specs.Tolerances.{width}
+use Rattle.control.specs.Sequences.{sequence-under}
 use Rattle.control.specs.declared.distribution.Distribution.{Distribution}
 use Rattle.control.specs.declared.ending.Ending.{Ending}
 
@@ -43,4 +42,4 @@ pub record Eased (m : Meaning) (p e : ℕ) (es : List ℤ) (q f : ℕ) (fs : Lis
 abbrev pub Steady : Meaning → Type 0
 Steady m =
     (k : Distribution) (p e q f : ℕ) (es fs : List ℤ) → Eased m p e es q f fs
-    → No-worse (sequence-end m (width m k p e) es) (sequence-end m (width m k q f) fs)
+    → No-worse (sequence-under m k p e es) (sequence-under m k q f fs)

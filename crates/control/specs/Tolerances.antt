@@ -28,12 +28,12 @@ coefficient m Trapezoid = m .trapezoid
 coefficient m Uniform = m .uniform
 
 -- D = 10,000 P - K E
-abbrev pub tolerance : ℕ → ℕ → ℕ → ℕ
-tolerance k p e = 10000 * p - k * e
+abbrev pub tolerance-with : ℕ → ℕ → ℕ → ℕ
+tolerance-with k p e = 10000 * p - k * e
 
 -- D under a plan
-abbrev pub width : Meaning → Distribution → ℕ → ℕ → ℕ
-width m k p e = tolerance (coefficient m k) p e
+abbrev pub tolerance-under : Meaning → Distribution → ℕ → ℕ → ℕ
+tolerance-under m k p e = tolerance-with (coefficient m k) p e
 
 -- an error is in tolerance when 10,000 of its size and the margin do not exceed D
 abbrev pub in-tolerance : ℕ → ℕ → ℤ → Bool

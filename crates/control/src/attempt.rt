@@ -1,7 +1,7 @@
 // An attempt on a plan, from its first observation to its end.
 ghost use Prim.Native.Nat.{_<_, _≤_};
 ghost use Rattle.control.specs.Attempts.{Observed, Sound, none-yet};
-ghost use Rattle.control.specs.Statistics.{dominant, quantity};
+ghost use Rattle.control.specs.Statistics.{dominant, quantity-verdict};
 ghost use Rattle.std.specs.Options.{isSome};
 ghost use Rattle.std.specs.declared.option.Option.the-variants.{None, Some};
 ghost use mathlib.Core.Bool.{true};
@@ -112,7 +112,7 @@ impl Finished {
 
     // How quantity control of the attempt ends.
     pub fn quantity(&self) -> Verdict
-        ensures { λ r. ⌜ r ≡ quantity (now (self .entry) .tolerance .width) (now (self .entry) .tally) ⌝ }
+        ensures { λ r. ⌜ r ≡ quantity-verdict (now (self .entry) .tolerance .width) (now (self .entry) .tally) ⌝ }
     {
         quantity_control(self.tally, self.tolerance.width)
     }

@@ -1,6 +1,6 @@
 // Errors, in tenths, and how they count.
 ghost use Prim.Native.Nat.{_*_, _≤_};
-ghost use Rattle.control.specs.Errors.{counted, wild};
+ghost use Rattle.control.specs.Errors.{counted, is-wild};
 ghost use Rattle.control.specs.Tolerances.{in-tolerance};
 ghost use lib.IntN.{natAbs};
 ghost use mathlib.Core.Path.{_≡_};
@@ -8,7 +8,7 @@ use method::measures::SCALE;
 use method::measures::WILD;
 
 pub(crate) fn is_wild(error: i32) -> bool
-    ensures { λ r. ⌜ r ≡ wild error ⌝ }
+    ensures { λ r. ⌜ r ≡ is-wild error ⌝ }
 {
     error.unsigned_abs() > WILD as u32
 }

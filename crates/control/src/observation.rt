@@ -1,6 +1,6 @@
 // One observation of an attempt, on plain numbers.
 ghost use Prim.Native.Nat.{_+_, _<_, _≤_};
-ghost use Rattle.control.specs.Attempts.{Sound, added, after, fit-if, verdict-at, verdict-of};
+ghost use Rattle.control.specs.Attempts.{Sound, added, fit-if, tally-after, verdict-at, verdict-of};
 ghost use Rattle.control.specs.Errors.{counted};
 ghost use Rattle.std.specs.declared.option.Option.the-variants.{None};
 ghost use lib.IntN.{_+ℤ_, natAbs};
@@ -78,7 +78,7 @@ fn verdict_with<P: Plan>(plan: &P, n: u32, x: u32, in_tolerance: bool) -> Option
 pub fn observed<P: Plan>(plan: &P, width: u32, tally: Tally, error: i32) -> (Tally, Option<Verdict>)
     requires sound { ⌜ Sound tally ⌝ }
     requires room { ⌜ tally .observations < 48 ⌝ }
-    ensures tally { λ r. ⌜ r .0 ≡ after (meaning (now (plan .entry))) width tally error ⌝ }
+    ensures tally { λ r. ⌜ r .0 ≡ tally-after (meaning (now (plan .entry))) width tally error ⌝ }
     ensures verdict { λ r. ⌜ r .1 ≡ verdict-of (meaning (now (plan .entry))) width tally error ⌝ }
     ensures sound { λ r. ⌜ Sound (r .0) ⌝ }
     ensures count { λ r. ⌜ r .0 .observations ≡ tally .observations + 1 ⌝ }

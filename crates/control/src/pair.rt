@@ -1,7 +1,6 @@
 // Two sequences beside each other.
-ghost use Rattle.control.specs.Sequences.{sequence-end};
+ghost use Rattle.control.specs.Sequences.{sequence-under};
 ghost use Rattle.control.specs.Steadiness.{Eased, No-worse, Steady};
-ghost use Rattle.control.specs.Tolerances.{width};
 ghost use mathlib.Core.Path.{_≡_};
 use crate::distribution::Distribution;
 use crate::ending::Ending;
@@ -25,8 +24,8 @@ pub fn sequence_pair<P: Plan>(
     second: Permitted,
     smaller: &[i32],
 ) -> Endings
-    ensures first { λ r. ⌜ r .first ≡ sequence-end (meaning (now (plan .entry))) (width (meaning (now (plan .entry))) distribution (first .meter) (first .reference)) (now (errors .entry)) ⌝ }
-    ensures second { λ r. ⌜ r .second ≡ sequence-end (meaning (now (plan .entry))) (width (meaning (now (plan .entry))) distribution (second .meter) (second .reference)) (now (smaller .entry)) ⌝ }
+    ensures first { λ r. ⌜ r .first ≡ sequence-under (meaning (now (plan .entry))) distribution (first .meter) (first .reference) (now (errors .entry)) ⌝ }
+    ensures second { λ r. ⌜ r .second ≡ sequence-under (meaning (now (plan .entry))) distribution (second .meter) (second .reference) (now (smaller .entry)) ⌝ }
     ensures no_worse { λ r. ⌜ (Eased (meaning (now (plan .entry))) (first .meter) (first .reference) (now (errors .entry)) (second .meter) (second .reference) (now (smaller .entry)) → No-worse (r .first) (r .second)) ⌝ }
     ensures steady { λ r. ⌜ Steady (meaning (now (plan .entry))) ⌝ }
 {

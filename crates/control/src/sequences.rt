@@ -1,9 +1,9 @@
 // An attempt's sequence over a list of errors.
 ghost use Prim.Native.Nat.{_<_, _≤_};
 ghost use Rattle.control.specs.Attempts.{Sound};
-ghost use Rattle.control.specs.Sequences.{Brought, Ends-by-cut, Ends-first, ending-of, sequence-end};
+ghost use Rattle.control.specs.Sequences.{Brought, Ends-by-cut, Ends-first, ending-of, sequence-end, sequence-under};
 ghost use Rattle.control.specs.Tallies.{tally-of};
-ghost use Rattle.control.specs.Tolerances.{width as width-under};
+ghost use Rattle.control.specs.Tolerances.{tolerance-under};
 ghost use Rattle.std.specs.Options.{isSome};
 ghost use Rattle.std.specs.declared.option.Option.the-variants.{None, Some};
 ghost use lib.ListN.{length, take};
@@ -62,8 +62,8 @@ pub fn sequence<P: Plan>(
     permitted: Permitted,
     errors: &[i32],
 ) -> Option<Ending>
-    ensures is { λ r. ⌜ r ≡ sequence-end (meaning (now (plan .entry))) (width-under (meaning (now (plan .entry))) distribution (permitted .meter) (permitted .reference)) (now (errors .entry)) ⌝ }
-    ensures first { λ r. ⌜ Ends-first (meaning (now (plan .entry))) (width-under (meaning (now (plan .entry))) distribution (permitted .meter) (permitted .reference)) (now (errors .entry)) r ⌝ }
+    ensures is { λ r. ⌜ r ≡ sequence-under (meaning (now (plan .entry))) distribution (permitted .meter) (permitted .reference) (now (errors .entry)) ⌝ }
+    ensures first { λ r. ⌜ Ends-first (meaning (now (plan .entry))) (tolerance-under (meaning (now (plan .entry))) distribution (permitted .meter) (permitted .reference)) (now (errors .entry)) r ⌝ }
     ensures by_cut { λ r. ⌜ Ends-by-cut (meaning (now (plan .entry))) (now (errors .entry)) r ⌝ }
 {
     let tolerance = Tolerance::new(permitted, plan, distribution);

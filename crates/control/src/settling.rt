@@ -1,6 +1,6 @@
 // Settling of a new point's codes.
 ghost use Prim.Native.Nat.{_<_, _≤_};
-ghost use Rattle.control.specs.Settlings.{Settles-first, agree, agreement-refusal, near, no-codes, settled, settled-by, settling, with-code};
+ghost use Rattle.control.specs.Settlings.{Settles-first, agree, agreement-refusal, near, no-codes, settled-at, settled-by, settling-end, with-code};
 ghost use Rattle.method.specs.Refusals.{refused-by};
 ghost use Rattle.std.specs.Vec.{made};
 ghost use Rattle.std.specs.declared.option.Option.the-variants.{None, Some};
@@ -53,7 +53,7 @@ fn all_agree(agreement: u32, a: i32, b: i32, c: i32) -> bool
 
 // How the i-th code ends the settling, if it does; the latest is a, and b and c were before it.
 fn settled_at(agreement: u32, i: u32, a: i32, b: i32, c: i32) -> Option<SettledBy>
-    ensures is { λ r. ⌜ r ≡ settled agreement i a b c ⌝ }
+    ensures is { λ r. ⌜ r ≡ settled-at agreement i a b c ⌝ }
     ensures room { λ r. ⌜ (r ≡ None → i < 200) ⌝ }
 {
     if i >= 3 {
@@ -126,7 +126,7 @@ impl Settling {
 
 // The codes one by one, until settling ends or none is left.
 fn settle_through(agreement: u32, codes: &[i32]) -> Option<Settled>
-    ensures { λ r. ⌜ r ≡ settling agreement no-codes (now (codes .entry)) ⌝ }
+    ensures { λ r. ⌜ r ≡ settling-end agreement no-codes (now (codes .entry)) ⌝ }
 {
     let mut latest = NO_CODES;
     for code in codes {
@@ -145,7 +145,7 @@ fn settle_through(agreement: u32, codes: &[i32]) -> Option<Settled>
 // Where and how settling over these codes ends, if they bring it to its end.
 pub fn settle(agreement: i32, codes: &[i32]) -> Result<Option<Settled>, Question>
     ensures refuses { λ r. ⌜ refused-by r ≡ agreement-refusal agreement ⌝ }
-    ensures is { λ r. ⌜ made r (λ s. s ≡ settling (natAbs agreement) no-codes (now (codes .entry))) ⌝ }
+    ensures is { λ r. ⌜ made r (λ s. s ≡ settling-end (natAbs agreement) no-codes (now (codes .entry))) ⌝ }
     ensures first { λ r. ⌜ made r (λ s. Settles-first (natAbs agreement) (now (codes .entry)) s) ⌝ }
 {
     let new = Settling::new(agreement)?;

@@ -1,5 +1,5 @@
 // The soonest observation at which an attempt could end fit.
-ghost use Rattle.control.specs.Prospects.{Foretells, could-end, soonest};
+ghost use Rattle.control.specs.Prospects.{Foretells, could-end, soonest-fit};
 ghost use mathlib.Core.Path.{_≡_};
 use method::Plan;
 
@@ -15,7 +15,7 @@ fn could_end_fit<P: Plan>(plan: &P, x: u32, i: u32) -> bool
 
 // The least observation after n, up to the cut, at which an attempt with x out could end fit if all to come are in tolerance; 0 if there is none.
 pub fn soonest_fit<P: Plan>(plan: &P, n: u32, x: u32) -> u32
-    ensures is { λ r. ⌜ r ≡ soonest (meaning (now (plan .entry))) n x ⌝ }
+    ensures is { λ r. ⌜ r ≡ soonest-fit (meaning (now (plan .entry))) n x ⌝ }
     ensures foretells { λ r. ⌜ Foretells (meaning (now (plan .entry))) n x r ⌝ }
 {
     let cut = plan.cut();

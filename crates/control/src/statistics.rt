@@ -1,6 +1,6 @@
 // Quantity control and dominance, on an attempt's numbers.
 ghost use Prim.Native.Nat.{_*_, _-_, _≤_};
-ghost use Rattle.control.specs.Statistics.{dominant, quantity, room, spread, spread-leaves-room, student};
+ghost use Rattle.control.specs.Statistics.{dominant, quantity-verdict, room-left, spread-leaves-room, spread-of, student};
 ghost use lib.IntN.{_*ℤ_, natAbs, pos};
 ghost use lib.Signed.{_≤ℤ_};
 ghost use mathlib.Core.Path.{_≡_};
@@ -25,7 +25,7 @@ fn square_of(sum: i32) -> u64
 
 // V = N Q - S S.
 fn spread_of(tally: Tally) -> i128
-    ensures is { λ r. ⌜ r ≡ spread tally ⌝ }
+    ensures is { λ r. ⌜ r ≡ spread-of tally ⌝ }
     ensures small { λ r. ⌜ natAbs r ≤ 18446744073709551616 ⌝ }
 {
     product(tally.squares, tally.observations) as i128 - square_of(tally.sum) as i128
@@ -35,7 +35,7 @@ fn spread_of(tally: Tally) -> i128
 fn room_of(tally: Tally, width: u32) -> i128
     requires few { ⌜ tally .observations ≤ 48 ⌝ }
     requires high { ⌜ width ≤ 10000000 ⌝ }
-    ensures is { λ r. ⌜ r ≡ room width tally ⌝ }
+    ensures is { λ r. ⌜ r ≡ room-left width tally ⌝ }
     ensures high { λ r. ⌜ r ≤ℤ pos 480000000 ⌝ }
 {
     product(tally.observations, width) as i128 - product(SCALE, tally.sum.unsigned_abs()) as i128
@@ -102,7 +102,7 @@ fn leaves_room(tally: Tally, width: u32) -> bool
 pub fn quantity_control(tally: Tally, width: u32) -> Verdict
     requires few { ⌜ tally .observations ≤ 48 ⌝ }
     requires high { ⌜ width ≤ 10000000 ⌝ }
-    ensures { λ r. ⌜ r ≡ quantity width tally ⌝ }
+    ensures { λ r. ⌜ r ≡ quantity-verdict width tally ⌝ }
 {
     if tally.wild || tally.observations < 2 {
         return Verdict::Unfit;

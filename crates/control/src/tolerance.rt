@@ -1,6 +1,6 @@
 // The tolerance that the permitted errors leave an observation under a plan.
 ghost use Prim.Native.Nat.{_*_, _≤_};
-ghost use Rattle.control.specs.Tolerances.{Permits, coefficient, tolerance, width};
+ghost use Rattle.control.specs.Tolerances.{Permits, coefficient, tolerance-under, tolerance-with};
 ghost use mathlib.Core.Path.{_≡_};
 use crate::distribution::Distribution;
 use crate::permitted::Permitted;
@@ -30,7 +30,7 @@ fn coefficient_of<P: Plan>(plan: &P, distribution: Distribution) -> u32
 fn narrowed(k: u32, meter: u32, reference: u32) -> u32
     requires share { ⌜ k ≤ 9999 ⌝ }
     requires permits { ⌜ Permits meter reference ⌝ }
-    ensures is { λ r. ⌜ r ≡ tolerance k meter reference ⌝ }
+    ensures is { λ r. ⌜ r ≡ tolerance-with k meter reference ⌝ }
     ensures some { λ r. ⌜ 1 ≤ r ⌝ }
     ensures high { λ r. ⌜ r ≤ 10000000 ⌝ }
 {
@@ -45,7 +45,7 @@ pub fn tolerance_width<P: Plan>(
     reference: u32,
 ) -> u32
     requires permits { ⌜ Permits meter reference ⌝ }
-    ensures is { λ r. ⌜ r ≡ width (meaning (now (plan .entry))) distribution meter reference ⌝ }
+    ensures is { λ r. ⌜ r ≡ tolerance-under (meaning (now (plan .entry))) distribution meter reference ⌝ }
     ensures some { λ r. ⌜ 1 ≤ r ⌝ }
     ensures high { λ r. ⌜ r ≤ 10000000 ⌝ }
 {
@@ -54,7 +54,7 @@ pub fn tolerance_width<P: Plan>(
 
 impl Tolerance {
     pub fn new<P: Plan>(permitted: Permitted, plan: &P, distribution: Distribution) -> Tolerance
-        ensures { λ r. ⌜ r .width ≡ width (meaning (now (plan .entry))) distribution (permitted .meter) (permitted .reference) ⌝ }
+        ensures { λ r. ⌜ r .width ≡ tolerance-under (meaning (now (plan .entry))) distribution (permitted .meter) (permitted .reference) ⌝ }
     {
         Tolerance {
             width: tolerance_width(plan, distribution, permitted.meter, permitted.reference),
