@@ -14,6 +14,23 @@ pub struct Endings {
     pub second: Option<Ending>,
 }
 
+fn end_both<P: Plan>(
+    plan: &P,
+    distribution: Distribution,
+    first: Permitted,
+    errors: &[i32],
+    second: Permitted,
+    smaller: &[i32],
+) -> Endings
+    ensures first { λ r. ⌜ r .first ≡ sequence-under (meaning (now (plan .entry))) distribution (first .meter) (first .reference) (now (errors .entry)) ⌝ }
+    ensures second { λ r. ⌜ r .second ≡ sequence-under (meaning (now (plan .entry))) distribution (second .meter) (second .reference) (now (smaller .entry)) ⌝ }
+{
+    Endings {
+        first: sequence(plan, distribution, first, errors),
+        second: sequence(plan, distribution, second, smaller),
+    }
+}
+
 // The ends of two sequences under one plan and one of its coefficients.
 // Where the second's errors are nowhere larger and its tolerance is no narrower, it does no worse.
 pub fn sequence_pair<P: Plan>(
@@ -29,8 +46,5 @@ pub fn sequence_pair<P: Plan>(
     ensures no_worse { λ r. ⌜ (Eased (meaning (now (plan .entry))) (first .meter) (first .reference) (now (errors .entry)) (second .meter) (second .reference) (now (smaller .entry)) → No-worse (r .first) (r .second)) ⌝ }
     ensures steady { λ r. ⌜ Steady (meaning (now (plan .entry))) ⌝ }
 {
-    Endings {
-        first: sequence(plan, distribution, first, errors),
-        second: sequence(plan, distribution, second, smaller),
-    }
+    end_both(plan, distribution, first, errors, second, smaller)
 }

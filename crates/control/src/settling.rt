@@ -99,11 +99,11 @@ impl Settling {
         })
     }
 
-    // The settling codes so far.
-    pub fn codes(&self) -> Codes
-        ensures { λ r. ⌜ r ≡ now (self .entry) .codes ⌝ }
+    // How many settling codes there were so far.
+    pub fn count(&self) -> u32
+        ensures { λ r. ⌜ r ≡ now (self .entry) .codes .count ⌝ }
     {
-        self.codes
+        self.codes.count
     }
 
     // One settling code more.

@@ -5,8 +5,8 @@ pub returns : need.returns
 returns g c =
     let m = g .P·Plan .meaning (c .args .plan .now) in
     record {
-      first = c .sequence .ensures .is;
-      second = c .sequence-2 .ensures .is;
-      no-worse = steady-of m (c .args .distribution) (c .args .first .meter) (c .args .first .reference) (c .args .second .meter) (c .args .second .reference) (c .args .errors .now) (c .args .smaller .now) _ _ (c .sequence .ensures .is) (c .sequence-2 .ensures .is);
+      first = c .end-both .ensures .first;
+      second = c .end-both .ensures .second;
+      no-worse = steady-of m (c .args .distribution) (c .args .first .meter) (c .args .first .reference) (c .args .second .meter) (c .args .second .reference) (c .args .errors .now) (c .args .smaller .now) _ _ (c .end-both .ensures .first) (c .end-both .ensures .second);
       steady = steady m;
     }
