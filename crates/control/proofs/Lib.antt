@@ -1,0 +1,7 @@
+mod Products
+pub mod TallySteps
+pub mod EndsFirst
+mod RunSteps
+pub mod SmallerErrors
+pub mod Foresight
+pub mod SettlesFirst

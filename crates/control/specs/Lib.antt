@@ -1,0 +1,11 @@
+pub mod Errors
+pub mod Tolerances
+pub mod Attempts
+pub mod Statistics
+pub mod Firsts
+pub mod Tallies
+pub mod Sequences
+pub mod Steadiness
+pub mod Prospects
+pub mod Settlings
+pub mod Examples
