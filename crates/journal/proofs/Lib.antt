@@ -1,0 +1,7 @@
+pub mod Shifts
+pub mod Steps
+pub mod Codings
+pub mod Rows
+pub mod Bytes
+pub mod Formats
+pub mod Sounds
