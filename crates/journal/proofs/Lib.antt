@@ -5,3 +5,4 @@ pub mod Rows
 pub mod Bytes
 pub mod Formats
 pub mod Sounds
+pub mod Journals

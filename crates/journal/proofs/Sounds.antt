@@ -1,4 +1,4 @@
--- A sequence record's fields are told by its numbers, and its numbers by its fields.
+-- Each kind is sound: its fields are told by its numbers, and its numbers by its fields.
 use Prim.Native.Nat.{ℕ, zero, suc, _+_, _<_}
 use mathlib.Core.Path.{_≡_, refl, sym, ap, _∙_}
 use mathlib.Core.Bool.{Bool, true, false}
@@ -14,7 +14,7 @@ use Rattle.std.proofs.shelf.Ways.{tells}
 use Rattle.journal.specs.Codes.{first-code, first-of, quantity-code, quantity-of, verdict-code, verdict-of, flag-code, flag-of}
 use Rattle.journal.specs.Fields.{in-range, all-in-range, first-attempt, quantity, flag}
 use Rattle.journal.specs.Format.{Sound}
-use Rattle.journal.specs.Kinds.{sequence, at}
+use Rattle.journal.specs.Kinds.{sequence, three-step, certificate, notice, at}
 use Rattle.journal.specs.declared.field.Field.{Field}
 use Rattle.journal.specs.declared.codes.FirstAttempt.{FirstAttempt}
 use Rattle.journal.specs.declared.codes.FirstAttempt.the-variants.{Absent, SequenceAlone, QuantityAlone, ShortUnfit}
@@ -101,3 +101,12 @@ sequence-sound = record {
   back = sequence-back;
   only = sequence-only;
 }
+
+pub three-step-sound : Sound three-step
+three-step-sound = search needs
+
+pub certificate-sound : Sound certificate
+certificate-sound = search needs
+
+pub notice-sound : Sound notice
+notice-sound = search needs

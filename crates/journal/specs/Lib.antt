@@ -5,3 +5,4 @@ pub mod Format
 pub mod Kinds
 pub mod Writing
 pub mod Reading
+pub mod Journal

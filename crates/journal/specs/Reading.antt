@@ -59,3 +59,8 @@ ReadsBack {F = F} m =
 abbrev pub ReadsOnly : {F : Type 0} → Format F → Type 0
 ReadsOnly {F = F} m =
     (p : Place) (bs : List ℕ) (f : F) → Bytes bs → kind-of bs ≡ m .number → decoded m p bs ≡ Ok f → (legal m f ≡ true) × (bs ≡ encoded m f ++ drop (m .size) bs)
+
+-- writing and reading are one to one
+pub record OneToOne {F : Type 0} (m : Format F) : Type 0 where
+  pub back : ReadsBack m
+  pub only : ReadsOnly m

@@ -2,7 +2,7 @@
 ghost use Prim.Native.Nat.{_≤_};
 ghost use Rattle.journal.specs.Bits.{bytes-of};
 ghost use Rattle.journal.specs.Format.{encoded, legal, packed};
-ghost use Rattle.journal.specs.Reading.{ReadsBack, ReadsOnly};
+ghost use Rattle.journal.specs.Reading.{OneToOne};
 ghost use Rattle.journal.specs.Writing.{answered, laid};
 ghost use lib.ListN.{drop, length};
 ghost use mathlib.Core.Bool.{_&&_};
@@ -65,8 +65,7 @@ pub fn write<K: RecordKind>(
 ) -> Result<usize, Question>
     ensures answer { λ r. ⌜ r ≡ answered (legal (K·RecordKind .format) (now (fields .entry))) (length (encoded (K·RecordKind .format) (now (fields .entry)))) place (length (now (journal .entry))) ⌝ }
     ensures bytes { λ _. ⌜ now (journal .exit) ≡ laid (legal (K·RecordKind .format) (now (fields .entry))) (encoded (K·RecordKind .format) (now (fields .entry))) place (now (journal .entry)) ⌝ }
-    ensures back { λ _. ⌜ ReadsBack (K·RecordKind .format) ⌝ }
-    ensures only { λ _. ⌜ ReadsOnly (K·RecordKind .format) ⌝ }
+    ensures law { λ _. ⌜ OneToOne (K·RecordKind .format) ⌝ }
 {
     let bits = packed::<K>(fields);
     let count = asked::<K>(fields, &bits, place, journal.len())?;
