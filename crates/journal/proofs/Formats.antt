@@ -22,12 +22,14 @@ use Rattle.journal.specs.declared.bits.Unpacking.{Unpacking}
 use Rattle.journal.specs.declared.fault.Fault.{Fault}
 use Rattle.journal.specs.declared.fault.Place.{Place}
 use Rattle.journal.specs.declared.fault.Layer.the-variants.{Kind, Bits, Field}
-use Rattle.journal.specs.Bits.{packed-after, width, bytes-of, word-of, put, put-all, take-all, behind-all}
+use Rattle.journal.specs.Bits.{packed-after, width, bytes-of, word-of, numbers-in}
+use Rattle.journal.specs.Cursor.{put, put-all, take-all, behind-all, packed, headed}
 use Rattle.journal.specs.Fields.{all-in-range, in-range, kind-number, coded}
-use Rattle.journal.specs.Format.{Format, Sound, legal, row, all-numbers, fill, packed, encoded}
+use Rattle.journal.specs.Format.{Format, Sound, legal, row, all-numbers, fill, word, encoded}
 use Rattle.journal.specs.Writing.{answered, laid}
-use Rattle.journal.specs.Reading.{fault, kind-of, headed, ranged, meant, opened, decoded, Bytes, ReadsBack, ReadsOnly}
+use Rattle.journal.specs.Reading.{fault, kind-of, ranged, meant, opened, decoded, Bytes, ReadsBack, ReadsOnly}
 use Rattle.journal.proofs.Bytes.{bytes-of-word-of, word-of-bytes-of, word-of-append, word-of-lt, length-bytes-of, getD-bytes-of, word-of-top}
+use Rattle.journal.proofs.Places.{lifted, by-places, eqb-shifted}
 use Rattle.journal.proofs.Rows.{in-range-length, packed-lt, put-all-is, code-first, rest-behind, row-of, length-take-all, taken, only}
 
 refused : (a b : Bool) (n : ℕ) (q : Question) (old new : List ℕ) → Err q ≡ cond a (cond b (Ok n) (Err FitsBuffer)) (Err FieldsInRange) → old ≡ cond (a && b) new old
@@ -56,14 +58,10 @@ module _ {F : Type 0} (m : Format F) (s : Sound m) where
   whole-row : width (row m) + fill m ≡ 8 * m .size
   whole-row = omega (arith, s .room)
 
-  -- the record as one number
-  abbrev word : F → ℕ
-  word f = packed-after 0 (row m) (all-numbers m f) * 2 ^ fill m
-
-  word-lt : (f : F) → word f < 2 ^ (8 * m .size)
+  word-lt : (f : F) → word m f < 2 ^ (8 * m .size)
   word-lt f = rw whole-row at (shl-below (packed-after 0 (row m) (all-numbers m f)) (width (row m)) (fill m) (packed-lt (row m) (all-numbers m f) (numbered f)))
 
-  pub word-is : (f : F) (b : Packing) → b ≡ packed m f → (b .word * 2 ^ b .left) % 2 ^ 128 ≡ word f
+  pub word-is : (f : F) (b : Packing) → b ≡ packed m f → (b .word * 2 ^ b .left) % 2 ^ 128 ≡ word m f
   word-is f b e =
       ap (λ x. (x .word * 2 ^ x .left) % 2 ^ 128) e ∙ shl-whole (packed-after 0 (row m) (all-numbers m f)) (width (row m)) (fill m) 128 (packed-lt (row m) (all-numbers m f) (numbered f)) (omega (arith, whole-row, s .short))
 
@@ -71,14 +69,14 @@ module _ {F : Type 0} (m : Format F) (s : Sound m) where
   fill-lt = omega (arith, s .spare)
 
   pub length-encoded : (f : F) → length (encoded m f) ≡ m .size
-  length-encoded f = length-bytes-of (m .size) (word f)
+  length-encoded f = length-bytes-of (m .size) (word m f)
 
   -- a refused writing leaves the journal as it was
   pub unwritten : (f : F) (place : ℕ) (old : List ℕ) (q : Question) → Err q ≡ answered (legal m f) (length (encoded m f)) place (length old) → old ≡ laid (legal m f) (encoded m f) place old
   unwritten f place old q h = refused (legal m f) (leb (place + length (encoded m f)) (length old)) (length (encoded m f)) q old _ h
 
   -- the journal, once the bytes were laid down in the part that is lent on
-  pub written : (f : F) (place : ℕ) (old part : List ℕ) (count w : ℕ) → Ok count ≡ answered (legal m f) (length (encoded m f)) place (length old) → w ≡ word f → part ≡ bytes-of count w ++ drop count (take (length old - place) (drop place old)) → putMid place (length old - place) old part ≡ laid (legal m f) (encoded m f) place old
+  pub written : (f : F) (place : ℕ) (old part : List ℕ) (count w : ℕ) → Ok count ≡ answered (legal m f) (length (encoded m f)) place (length old) → w ≡ word m f → part ≡ bytes-of count w ++ drop count (take (length old - place) (drop place old)) → putMid place (length old - place) old part ≡ laid (legal m f) (encoded m f) place old
   written f place old part count w h we e =
       let size = length-encoded f in
       let t = granted (legal m f) (leb (place + length (encoded m f)) (length old)) (length (encoded m f)) count h in
@@ -117,7 +115,7 @@ module _ {F : Type 0} (m : Format F) (s : Sound m) where
 
   front-is : (f : F) (rest : List ℕ) → front (encoded m f ++ rest) ≡ packed-after 0 (row m) (all-numbers m f) * 2 ^ (128 - width (row m))
   front-is f rest =
-      ap (λ x. x * 2 ^ (128 - 8 * m .size)) (word-of-append (m .size) (encoded m f) rest (omega (arith, length-encoded f)) ∙ word-of-bytes-of (m .size) (word f) (word-lt f)) ∙ mul-assoc (packed-after 0 (row m) (all-numbers m f)) (2 ^ fill m) (2 ^ (128 - 8 * m .size)) ∙ ap (λ x. packed-after 0 (row m) (all-numbers m f) * x) beyond
+      ap (λ x. x * 2 ^ (128 - 8 * m .size)) (word-of-append (m .size) (encoded m f) rest (omega (arith, length-encoded f)) ∙ word-of-bytes-of (m .size) (word m f) (word-lt f)) ∙ mul-assoc (packed-after 0 (row m) (all-numbers m f)) (2 ^ fill m) (2 ^ (128 - 8 * m .size)) ∙ ap (λ x. packed-after 0 (row m) (all-numbers m f) * x) beyond
 
   -- the first four bits are the first byte's
   nibble : (bs : List ℕ) → ((i : ℕ) → i < m .size → getD bs i 0 < 256) → front bs / 2 ^ 124 ≡ kind-of bs
@@ -134,8 +132,30 @@ module _ {F : Type 0} (m : Format F) (s : Sound m) where
 
   pub kind-front : (f : F) (rest : List ℕ) → kind-of (encoded m f ++ rest) ≡ m .number
   kind-front f rest =
-      let small : (i : ℕ) → i < m .size → getD (encoded m f ++ rest) i 0 < 256 = λ i lt. rw (getD-append-left (encoded m f) rest 0 i (omega (arith, length-encoded f)), getD-bytes-of (m .size) (word f) i lt) (mod-below (word f / 2 ^ (8 * (m .size - 1 - i))) 256 (omega arith)) in
+      let small : (i : ℕ) → i < m .size → getD (encoded m f ++ rest) i 0 < 256 = λ i lt. rw (getD-append-left (encoded m f) rest 0 i (omega (arith, length-encoded f)), getD-bytes-of (m .size) (word m f) i lt) (mod-below (word m f / 2 ^ (8 * (m .size - 1 - i))) 256 (omega arith)) in
       sym (nibble (encoded m f ++ rest) small) ∙ code-first kind-number (pos (m .number)) (m .fields) (m .numbers f) (front (encoded m f ++ rest)) narrow (s .full f) (front-is f rest) ∙ number-coded
+
+  -- the same record, as the cursor reads it
+  abbrev pub unpacked : Place → Unpacking → Result F Fault
+  unpacked p b = cond (eqb (behind-all (m .fields) b .word) 0) (meant m p (take-all (m .fields) b)) (Err (fault FillZero Bits p))
+
+  pub as-cursor : (p : Place) (bs : List ℕ) → opened m p (word-of (m .size) bs) ≡ unpacked p (headed m bs)
+  as-cursor p bs =
+      let k = 8 * m .size - 4 in
+      let n = word-of (m .size) bs in
+      let room : width (m .fields) ≤ k = omega (arith, s .room) in
+      let high : k ≤ 128 = omega (arith, s .short) in
+      let e : 132 - 8 * m .size ≡ 128 - k = omega (arith, s .short, s .some) in
+      let start : headed m bs .word ≡ (n % 2 ^ k) * 2 ^ (128 - k) = ap (λ j. (n * 2 ^ j) % 2 ^ 128) e ∙ lifted n k 128 high in
+      let t = by-places (m .fields) k n (headed m bs .word) true room high start in
+      let left : k - width (m .fields) ≡ fill m = omega arith in
+      let rest : behind-all (m .fields) (headed m bs) .word ≡ (n % 2 ^ fill m) * 2 ^ (128 - fill m) = t .1 ∙ ap (λ j. (n % 2 ^ j) * 2 ^ (128 - j)) left in
+      let zero-fill : eqb (behind-all (m .fields) (headed m bs) .word) 0 ≡ eqb (n % 2 ^ fill m) 0 = ap (λ x. eqb x 0) rest ∙ eqb-shifted (n % 2 ^ fill m) (128 - fill m) in
+      sym (ap (λ x. cond x (meant m p (take-all (m .fields) (headed m bs))) (Err (fault FillZero Bits p))) zero-fill ∙ ap (λ zs. cond (eqb (n % 2 ^ fill m) 0) (meant m p zs) (Err (fault FillZero Bits p))) (t .0))
+
+  pub decoded-by-cursor : (p : Place) (bs : List ℕ) → decoded m p bs ≡ cond (leb (m .size) (length bs)) (unpacked p (headed m bs)) (Err (fault AllBytesThere Kind p))
+  unfolding decoded
+  decoded-by-cursor p bs = ap (λ x. cond (leb (m .size) (length bs)) x (Err (fault AllBytesThere Kind p))) (as-cursor p bs)
 
   pub reads-back : ReadsBack m
   reads-back p f rest h =
@@ -144,23 +164,23 @@ module _ {F : Type 0} (m : Format F) (s : Sound m) where
       let is : headed m bs .word ≡ packed-after 0 (m .fields) (m .numbers f) * 2 ^ (128 - width (m .fields)) = behind-kind bs ∙ rest-behind kind-number (pos (m .number)) (m .fields) (m .numbers f) (front bs) narrow (s .full f) (front-is f rest) in
       let t = taken (m .fields) (m .numbers f) (headed m bs .word) true (omega (arith, narrow)) (s .stand) (l .0) is in
       let long : m .size ≤ length bs = omega (arith, length-append (encoded m f) rest, length-encoded f) in
-      let there : opened m p (headed m bs) ≡ meant m p (take-all (m .fields) (headed m bs)) = rw (eq-eqb (behind-all (m .fields) (headed m bs) .word) 0 (t .1)) refl in
+      let there : unpacked p (headed m bs) ≡ meant m p (take-all (m .fields) (headed m bs)) = rw (eq-eqb (behind-all (m .fields) (headed m bs) .word) 0 (t .1)) refl in
       let meaning : meant m p (m .numbers f) ≡ Ok f = rw (s .back f, l .0, l .1) refl in
-      (kind-front f rest, rw (le-leb (m .size) (length bs) long) (there ∙ ap (meant m p) (t .0) ∙ meaning))
+      (kind-front f rest, decoded-by-cursor p bs ∙ rw (le-leb (m .size) (length bs) long) (there ∙ ap (meant m p) (t .0) ∙ meaning))
 
   ok-cond : (b : Bool) (r : Result F Fault) (e : Fault) (f : F) → cond b r (Err e) ≡ Ok f → (b ≡ true) × (r ≡ Ok f)
   ok-cond true r e f h = (refl, h)
   ok-cond false r e f h = let z : _≡_ {A = ℕ} 0 1 = cc in absurd (omega arith)
 
   pub reads-whole : (p : Place) (bs : List ℕ) (f : F) → decoded m p bs ≡ Ok f → m .size ≤ length bs
-  reads-whole p bs f e = leb-true (m .size) (length bs) (ok-cond (leb (m .size) (length bs)) _ _ f e .0)
+  reads-whole p bs f e = leb-true (m .size) (length bs) (ok-cond (leb (m .size) (length bs)) _ _ f (sym (decoded-by-cursor p bs) ∙ e) .0)
 
   pub reads-only : ReadsOnly m
   reads-only p bs f small kind e =
       let b = headed m bs in
       let zs = take-all (m .fields) b in
       let room : width (m .fields) ≤ 128 = omega (arith, narrow) in
-      let a = ok-cond (leb (m .size) (length bs)) _ _ f e in
+      let a = ok-cond (leb (m .size) (length bs)) (unpacked p b) _ f (sym (decoded-by-cursor p bs) ∙ e) in
       let z = ok-cond (eqb (behind-all (m .fields) b .word) 0) _ _ f (a .1) in
       let o = ok-cond (all-in-range (m .fields) zs && m .related (m .made zs)) (Ok (m .made zs)) _ f (z .1) in
       let l = and-parts (all-in-range (m .fields) zs) (m .related (m .made zs)) (o .0) in
@@ -173,7 +193,7 @@ module _ {F : Type 0} (m : Format F) (s : Sound m) where
       let all : front bs ≡ packed-after 0 (row m) (pos (m .number) ∷ zs) * 2 ^ (128 - width (row m)) = row-of kind-number (pos (m .number)) (m .fields) zs (front bs) narrow (length-take-all (m .fields) b) first (sym (behind-kind bs) ∙ fields) in
       let row-is : front bs ≡ packed-after 0 (row m) (all-numbers m f) * 2 ^ (128 - width (row m)) = all ∙ ap (λ ns. packed-after 0 (row m) (pos (m .number) ∷ ns) * 2 ^ (128 - width (row m))) (sym numbers) in
       let n = word-of (m .size) bs in
-      let shifted : n * 2 ^ (128 - 8 * m .size) ≡ word f * 2 ^ (128 - 8 * m .size) = row-is ∙ ap (λ x. packed-after 0 (row m) (all-numbers m f) * x) (sym beyond) ∙ sym (mul-assoc (packed-after 0 (row m) (all-numbers m f)) (2 ^ fill m) (2 ^ (128 - 8 * m .size))) in
-      let equal : word f ≡ n = sym (sym (shl-shr n (128 - 8 * m .size)) ∙ ap (λ x. x / 2 ^ (128 - 8 * m .size)) shifted ∙ shl-shr (word f) (128 - 8 * m .size)) in
+      let shifted : n * 2 ^ (128 - 8 * m .size) ≡ word m f * 2 ^ (128 - 8 * m .size) = row-is ∙ ap (λ x. packed-after 0 (row m) (all-numbers m f) * x) (sym beyond) ∙ sym (mul-assoc (packed-after 0 (row m) (all-numbers m f)) (2 ^ fill m) (2 ^ (128 - 8 * m .size))) in
+      let equal : word m f ≡ n = sym (sym (shl-shr n (128 - 8 * m .size)) ∙ ap (λ x. x / 2 ^ (128 - 8 * m .size)) shifted ∙ shl-shr (word m f) (128 - 8 * m .size)) in
       let begins : encoded m f ≡ take (m .size) bs = ap (bytes-of (m .size)) equal ∙ bytes-of-word-of (m .size) bs (leb-true (m .size) (length bs) (a .0)) small in
       (lawful, sym (rw begins (take-append-drop (m .size) bs)))

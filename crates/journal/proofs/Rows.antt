@@ -10,7 +10,8 @@ use lib.IntN.{ℤ, pos}
 use lib.ListN.{length}
 use Rattle.std.proofs.shelf.Bits.{pow-add, shl-whole, shl-below, shl-shr, shr-split, shr-high, mod-low, mod-below}
 use Rattle.std.proofs.shelf.Tests.{and-parts}
-use Rattle.journal.specs.Bits.{packed-after, width, put, put-all, first, behind, take-all, behind-all}
+use Rattle.journal.specs.Bits.{packed-after, width, numbers-in}
+use Rattle.journal.specs.Cursor.{put, put-all, first, behind, take-all, behind-all}
 use Rattle.journal.specs.Fields.{in-range, all-in-range, coded, told}
 use Rattle.journal.specs.Format.{stands, all-stand}
 use Rattle.journal.specs.declared.field.Field.{Field}

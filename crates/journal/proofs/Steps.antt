@@ -3,7 +3,7 @@ use Prim.Native.Nat.{ℕ, _+_, _-_, _*_, _/_, _%_, _^_}
 use mathlib.Core.Path.{_≡_, refl}
 use mathlib.Core.Bool.{Bool, _&&_}
 use lib.IntN.{ℤ}
-use Rattle.journal.specs.Bits.{put, first, behind}
+use Rattle.journal.specs.Cursor.{put, first, behind}
 use Rattle.journal.specs.Fields.{coded, told, in-range}
 use Rattle.journal.specs.declared.field.Field.{Field}
 use Rattle.journal.specs.declared.bits.Packing.{Packing}

@@ -10,7 +10,6 @@ use lib.Signed.{leZ, ltZ}
 use Rattle.journal.specs.Bits.{packed-after, width, bytes-of}
 use Rattle.journal.specs.Fields.{in-range, all-in-range, kind-number}
 use Rattle.journal.specs.declared.field.Field.{Field}
-use Rattle.journal.specs.declared.bits.Packing.{Packing}
 
 -- a kind's number, its bytes, its fields in their order, the numbers that are written for a record's fields,
 -- what record is made of numbers, and how fields have to agree with one another
@@ -37,17 +36,13 @@ all-numbers m f = pos (m .number) ∷ m .numbers f
 abbrev pub fill : {F : Type 0} → Format F → ℕ
 fill m = 8 * m .size - width (row m)
 
--- the kind and the fields as one number, the bits left in the last byte, and whether each field is in its range
-abbrev pub packed : {F : Type 0} → Format F → F → Packing
-packed m f = record {
-  word = packed-after 0 (row m) (all-numbers m f);
-  left = fill m;
-  «in_range» = all-in-range (m .fields) (m .numbers f);
-}
+-- the record as one number
+abbrev pub word : {F : Type 0} → Format F → F → ℕ
+word m f = packed-after 0 (row m) (all-numbers m f) * 2 ^ fill m
 
 -- the bytes of a record
 abbrev pub encoded : {F : Type 0} → Format F → F → List ℕ
-encoded m f = bytes-of (m .size) (packed-after 0 (row m) (all-numbers m f) * 2 ^ fill m)
+encoded m f = bytes-of (m .size) (word m f)
 
 -- the field's range can be told apart in its bits
 abbrev pub stands : Field → Bool

@@ -6,3 +6,4 @@ pub mod Kinds
 pub mod Writing
 pub mod Reading
 pub mod Journal
+pub mod Cursor

@@ -10,10 +10,9 @@ use Rattle.std.specs.declared.result.Result.{Result}
 use Rattle.std.specs.declared.result.Result.the-variants.{Ok, Err}
 use Rattle.method.specs.declared.question.Question.{Question}
 use Rattle.method.specs.declared.question.Question.the-variants.{AllBytesThere, FieldsInRange, FillZero}
-use Rattle.journal.specs.Bits.{word-of, behind-all, take-all}
+use Rattle.journal.specs.Bits.{word-of, numbers-in}
 use Rattle.journal.specs.Fields.{all-in-range}
-use Rattle.journal.specs.Format.{Format, legal, encoded}
-use Rattle.journal.specs.declared.bits.Unpacking.{Unpacking}
+use Rattle.journal.specs.Format.{Format, legal, fill, encoded}
 use Rattle.journal.specs.declared.fault.Fault.{Fault}
 use Rattle.journal.specs.declared.fault.Place.{Place}
 use Rattle.journal.specs.declared.fault.Layer.{Layer}
@@ -26,10 +25,6 @@ fault q l p = record { question = q; layer = l; place = p }
 abbrev pub kind-of : List ℕ → ℕ
 kind-of bs = getD bs 0 0 / 16
 
--- the bits behind the kind, at the head of 128
-abbrev pub headed : {F : Type 0} → Format F → List ℕ → Unpacking
-headed m bs = record { word = (word-of (m .size) bs * 2 ^ (132 - 8 * m .size)) % 2 ^ 128; «in_range» = true }
-
 -- the field layer: the fields where they are in range
 abbrev pub ranged : {F : Type 0} → Bool → F → Place → Result F Fault
 ranged in-range f p = cond in-range (Ok f) (Err (fault FieldsInRange Field p))
@@ -38,13 +33,14 @@ ranged in-range f p = cond in-range (Ok f) (Err (fault FieldsInRange Field p))
 abbrev pub meant : {F : Type 0} → Format F → Place → List ℤ → Result F Fault
 meant m p zs = ranged (all-in-range (m .fields) zs && m .related (m .made zs)) (m .made zs) p
 
--- the bit layer: nothing but zero bits stands behind the fields
-abbrev pub opened : {F : Type 0} → Format F → Place → Unpacking → Result F Fault
-opened m p b = cond (eqb (behind-all (m .fields) b .word) 0) (meant m p (take-all (m .fields) b)) (Err (fault FillZero Bits p))
+-- the bit layer: the bits behind the fields are zero
+abbrev pub opened : {F : Type 0} → Format F → Place → ℕ → Result F Fault
+opened m p n =
+    cond (eqb (n % 2 ^ fill m) 0) (meant m p (numbers-in (m .fields) (8 * m .size - 4) n)) (Err (fault FillZero Bits p))
 
 -- the record of a known kind at the front of bytes: are they all there, is the fill zero, are the fields in range
-abbrev pub decoded : {F : Type 0} → Format F → Place → List ℕ → Result F Fault
-decoded m p bs = cond (leb (m .size) (length bs)) (opened m p (headed m bs)) (Err (fault AllBytesThere Kind p))
+unfoldable pub decoded : {F : Type 0} → Format F → Place → List ℕ → Result F Fault
+decoded m p bs = cond (leb (m .size) (length bs)) (opened m p (word-of (m .size) bs)) (Err (fault AllBytesThere Kind p))
 
 -- every element is a byte
 abbrev pub Bytes : List ℕ → Type 0

@@ -1,6 +1,6 @@
 // A row of bits, the most significant first: fields are put behind one another, or taken off one by one.
 ghost use Prim.Native.Nat.{_≤_};
-ghost use Rattle.journal.specs.Bits.{behind, first, put};
+ghost use Rattle.journal.specs.Cursor.{behind, first, put};
 ghost use mathlib.Core.Path.{_≡_};
 use crate::field::Field;
 

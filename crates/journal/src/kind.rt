@@ -1,6 +1,7 @@
 // What a kind of record is: its number, its length, its fields, and how they lie in its bits.
 ghost use Prim.Native.Nat.{_+_, _<_};
-ghost use Rattle.journal.specs.Bits.{behind-all, put-all, take-all, word-of};
+ghost use Rattle.journal.specs.Bits.{word-of};
+ghost use Rattle.journal.specs.Cursor.{behind-all, put-all, take-all};
 ghost use Rattle.journal.specs.Format.{Format, Sound};
 ghost use Rattle.std.specs.Options.{Cases as BySome};
 ghost use lib.ListN.{length};

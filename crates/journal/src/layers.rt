@@ -1,8 +1,8 @@
 // Reading a record of any kind, by layers.
 ghost use Prim.Native.Nat.{_+_};
-ghost use Rattle.journal.specs.Bits.{behind-all, take-all};
+ghost use Rattle.journal.specs.Cursor.{behind-all, headed, take-all};
 ghost use Rattle.journal.specs.Fields.{all-in-range};
-ghost use Rattle.journal.specs.Reading.{decoded, fault, headed, ranged};
+ghost use Rattle.journal.specs.Reading.{decoded, fault, ranged};
 ghost use Rattle.method.specs.declared.question.Question.the-variants.{AllBytesThere, FieldsInRange, FillZero};
 ghost use Rattle.std.specs.Results.{Cases};
 ghost use Rattle.std.specs.declared.result.Result.the-variants.{Err, Ok};

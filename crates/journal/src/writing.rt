@@ -1,7 +1,8 @@
 // Writing a record of any kind into bytes that the caller lends.
 ghost use Prim.Native.Nat.{_≤_};
 ghost use Rattle.journal.specs.Bits.{bytes-of};
-ghost use Rattle.journal.specs.Format.{encoded, legal, packed};
+ghost use Rattle.journal.specs.Cursor.{packed};
+ghost use Rattle.journal.specs.Format.{encoded, legal};
 ghost use Rattle.journal.specs.Reading.{OneToOne};
 ghost use Rattle.journal.specs.Writing.{answered, laid};
 ghost use lib.ListN.{drop, length};

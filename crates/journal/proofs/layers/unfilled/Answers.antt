@@ -2,7 +2,7 @@ use mathlib.Core.Path.{_≡_, refl, sym, ap, _∙_}
 use mathlib.Core.Bool.{Bool, _&&_}
 use lib.Dec.{eqb}
 use Rattle.std.proofs.shelf.Tests.{eq-eqb, ne-eqb}
-use Rattle.journal.specs.Bits.{behind-all, take-all}
+use Rattle.journal.specs.Cursor.{behind-all, take-all}
 use Rattle.journal.specs.Fields.{all-in-range}
 use Rattle.journal.proofs.Rows.{flagged}
 use Rattle.journal.proofs.layers.unfilled.Needs as need
