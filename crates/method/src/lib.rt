@@ -16,7 +16,10 @@ pub use plan::Plan;
 pub use question::Question;
 pub use question::QuestionDebug;
 pub use question::QuestionDisplay;
+<<<<<<< HEAD
 pub use question::QuestionEq;
+=======
+>>>>>>> journal
 pub use question::QuestionPartialEq;
 pub use row::Row;
 pub use row::TableLimits;
@@ -30,5 +33,8 @@ pub use truncated::TruncatedPlan;
 pub use verdict::Verdict;
 pub use verdict::VerdictDebug;
 pub use verdict::VerdictDisplay;
+<<<<<<< HEAD
 pub use verdict::VerdictEq;
+=======
+>>>>>>> journal
 pub use verdict::VerdictPartialEq;

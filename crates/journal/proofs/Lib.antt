@@ -1,0 +1,9 @@
+pub mod Shifts
+pub mod Steps
+pub mod Codings
+pub mod Rows
+pub mod Bytes
+pub mod Places
+pub mod Formats
+pub mod Sounds
+pub mod Journals

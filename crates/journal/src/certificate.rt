@@ -1,0 +1,108 @@
+// The certificate: how a verification ended.
+ghost use Rattle.journal.specs.Kinds.{certificate, earned};
+ghost use mathlib.Core.Path.{_≡_};
+use crate::bits::Packing;
+use crate::bits::Unpacking;
+use crate::codes::verdict_code;
+use crate::codes::verdict_of;
+use crate::fields::CLOSED;
+use crate::fields::CODES_ACCEPTED;
+use crate::fields::FLAG;
+use crate::fields::POINT;
+use crate::fields::UNFIT;
+use crate::kind::Head;
+use crate::kind::RecordKind;
+use method::Verdict;
+use method::VerdictDebug;
+use method::VerdictPartialEq;
+
+#[derive(Clone, Copy, PartialEq, Eq, Debug)]
+pub struct CertificateFields {
+    pub declared: i32,
+    pub closed: i32,
+    pub unfit: i32,
+    pub verdict: Verdict,
+    pub codes_accepted: i32,
+}
+
+// The verdict that follows from the points: fit if every declared point was closed fit.
+fn earned(fields: &CertificateFields) -> Verdict
+    ensures { λ r. ⌜ r ≡ earned (now (fields .entry)) ⌝ }
+{
+    if fields.unfit == 0 && fields.closed == fields.declared {
+        Verdict::Fit
+    } else {
+        Verdict::Unfit
+    }
+}
+
+pub struct Certificate;
+
+pub impl RecordKind for Certificate as CertificateKind {
+    type Fields = CertificateFields;
+
+    const NUMBER: u8 = 3;
+
+    const LENGTH: usize = 8;
+
+    ghost format = { certificate };
+
+    fn head() -> Head {
+        Head {
+            number: Self::NUMBER,
+            length: Self::LENGTH,
+        }
+    }
+
+    fn apart(bytes: &[u8]) -> Option<(u128, &[u8])> {
+        let [
+            kind,
+            declared,
+            closed,
+            unfit,
+            verdict,
+            codes_high,
+            codes_middle,
+            codes_low,
+            rest @ ..,
+        ] = bytes
+        else {
+            return None;
+        };
+        let word = u64::from_be_bytes([
+            *kind,
+            *declared,
+            *closed,
+            *unfit,
+            *verdict,
+            *codes_high,
+            *codes_middle,
+            *codes_low,
+        ]);
+        Some((word as u128, rest))
+    }
+
+    fn related(fields: &CertificateFields) -> bool {
+        fields.closed <= fields.declared
+            && fields.unfit <= fields.closed
+            && fields.verdict == earned(fields)
+    }
+
+    fn pack(fields: &CertificateFields, bits: &mut Packing) {
+        bits.put(POINT, fields.declared);
+        bits.put(CLOSED, fields.closed);
+        bits.put(UNFIT, fields.unfit);
+        bits.put(FLAG, verdict_code(fields.verdict));
+        bits.put(CODES_ACCEPTED, fields.codes_accepted);
+    }
+
+    fn unpack(bits: &mut Unpacking) -> CertificateFields {
+        CertificateFields {
+            declared: bits.take(POINT),
+            closed: bits.take(CLOSED),
+            unfit: bits.take(UNFIT),
+            verdict: verdict_of(bits.take(FLAG)),
+            codes_accepted: bits.take(CODES_ACCEPTED),
+        }
+    }
+}
