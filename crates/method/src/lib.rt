@@ -16,10 +16,7 @@ pub use plan::Plan;
 pub use question::Question;
 pub use question::QuestionDebug;
 pub use question::QuestionDisplay;
-<<<<<<< HEAD
 pub use question::QuestionEq;
-=======
->>>>>>> journal
 pub use question::QuestionPartialEq;
 pub use row::Row;
 pub use row::TableLimits;
@@ -33,8 +30,5 @@ pub use truncated::TruncatedPlan;
 pub use verdict::Verdict;
 pub use verdict::VerdictDebug;
 pub use verdict::VerdictDisplay;
-<<<<<<< HEAD
 pub use verdict::VerdictEq;
-=======
->>>>>>> journal
 pub use verdict::VerdictPartialEq;
