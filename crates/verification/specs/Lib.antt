@@ -1,0 +1,4 @@
+pub mod Ordering
+pub mod Manual
+pub mod Records
+pub mod Calls

@@ -1,0 +1,23 @@
+// A verification from its manual signals to its last closed point, over any main and any short plan.
+mod calls;
+mod closed;
+mod declared;
+mod notice;
+mod orders;
+mod progress;
+mod records;
+mod stages;
+mod machine;
+
+pub use closed::Closed;
+pub use declared::Declared;
+pub use declared::StopRule;
+pub use notice::Check;
+pub use notice::Notice;
+pub use orders::Orders;
+pub use progress::Progress;
+pub use stages::Inspection;
+pub use stages::Insulation;
+pub use stages::Ready;
+pub use stages::Trial;
+pub use machine::Verification;
