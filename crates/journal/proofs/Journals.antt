@@ -52,6 +52,7 @@ kind-ok {F = F} m c k at bs other r P here there e = by-test (eqb k (m .number))
     by-name : (x : Result F Fault) → decoded m at bs ≡ x → k ≡ m .number → named c x ≡ Ok r → P r
     by-name (Ok f) d n e = let same : c f ≡ r = cc in subst P same (here f n d)
     by-name (Err q) d n e = let z : _≡_ {A = ℕ} 0 1 = cc in absurd (omega arith)
+
     by-test : (b : Bool) → eqb k (m .number) ≡ b → cond b (named c (decoded m at bs)) other ≡ Ok r → P r
     by-test true t e = by-name (decoded m at bs) refl (eqb-true k (m .number) t) e
     by-test false t e = there e

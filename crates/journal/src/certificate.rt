@@ -56,28 +56,28 @@ pub impl RecordKind for Certificate as CertificateKind {
 
     fn apart(bytes: &[u8]) -> Option<(u128, &[u8])> {
         let [
-            kind,
-            declared,
-            closed,
-            unfit,
-            verdict,
-            codes_high,
-            codes_middle,
-            codes_low,
+            kind_declared,
+            declared_closed,
+            closed_1,
+            unfit_1,
+            unfit_verdict_codes,
+            codes_1,
+            codes_2,
+            codes_fill,
             rest @ ..,
         ] = bytes
         else {
             return None;
         };
         let word = u64::from_be_bytes([
-            *kind,
-            *declared,
-            *closed,
-            *unfit,
-            *verdict,
-            *codes_high,
-            *codes_middle,
-            *codes_low,
+            *kind_declared,
+            *declared_closed,
+            *closed_1,
+            *unfit_1,
+            *unfit_verdict_codes,
+            *codes_1,
+            *codes_2,
+            *codes_fill,
         ]);
         Some((word as u128, rest))
     }

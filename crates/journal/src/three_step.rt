@@ -37,28 +37,28 @@ pub impl RecordKind for ThreeStep as ThreeStepKind {
 
     fn apart(bytes: &[u8]) -> Option<(u128, &[u8])> {
         let [
-            kind,
-            point,
-            settling,
-            d_high,
-            d_middle,
-            d_low,
-            s_high,
-            s_low,
+            kind_point,
+            point_settling,
+            settling_d,
+            d_1,
+            d_2,
+            d_s,
+            s_1,
+            s_2,
             rest @ ..,
         ] = bytes
         else {
             return None;
         };
         let word = u64::from_be_bytes([
-            *kind,
-            *point,
-            *settling,
-            *d_high,
-            *d_middle,
-            *d_low,
-            *s_high,
-            *s_low,
+            *kind_point,
+            *point_settling,
+            *settling_d,
+            *d_1,
+            *d_2,
+            *d_s,
+            *s_1,
+            *s_2,
         ]);
         Some((word as u128, rest))
     }
