@@ -15,8 +15,7 @@ use Rattle.std.proofs.shelf.Ways.{tells}
 use Rattle.method.specs.Meaning.{Meaning, Ranged}
 use Rattle.control.specs.Attempts.{verdict-at}
 use Rattle.control.specs.Tolerances.{in-tolerance}
-use Rattle.control.specs.Sequences.{run, or-later, sequence-end}
-use Rattle.control.specs.Steadiness.{Ends}
+use Rattle.control.specs.Sequences.{Ends, run, or-later, sequence-end}
 use Rattle.control.specs.Tallies.{count-out}
 use Rattle.control.specs.Prospects.{All-in, Foretells, Going-on, could-end, first-end, soonest-fit}
 use Rattle.control.specs.declared.ending.Ending.{Ending}

@@ -10,8 +10,7 @@ use lib.Signed.{leZ}
 use Rattle.std.specs.declared.option.Option.the-variants.{None}
 use Rattle.method.specs.Meaning.{Meaning}
 use Rattle.method.specs.declared.verdict.Verdict.the-variants.{Fit}
-use Rattle.control.specs.Sequences.{sequence-end}
-use Rattle.control.specs.Steadiness.{Ends}
+use Rattle.control.specs.Sequences.{Ends, sequence-end}
 use Rattle.control.specs.Tallies.{count-out}
 use Rattle.control.specs.Tolerances.{in-tolerance}
 
