@@ -38,6 +38,7 @@ Sound t =
     (t .observations ≤ 48) × (t .outs ≤ t .observations) × (natAbs (t .sum) ≤ 2000 * t .observations)
     × (t .squares ≤ 4000000 * t .observations)
 
+-- fit where the test holds
 abbrev pub fit-if : Bool → Verdict
 fit-if b = cond b Fit Unfit
 
