@@ -18,8 +18,8 @@ use Rattle.method.specs.Meaning.{Meaning}
 use Rattle.control.specs.Attempts.{verdict-at, fit-if}
 use Rattle.control.specs.Errors.{counted}
 use Rattle.control.specs.Tolerances.{in-tolerance, tolerance-with, tolerance-under, coefficient}
-use Rattle.control.specs.Sequences.{run, or-later, sequence-under}
-use Rattle.control.specs.Steadiness.{Ends, Leads, No-worse, Nearer, Eased, Steady}
+use Rattle.control.specs.Sequences.{Ends, run, or-later, sequence-under}
+use Rattle.control.specs.Steadiness.{Leads, No-worse, Nearer, Eased, Steady}
 use Rattle.control.specs.declared.distribution.Distribution.{Distribution}
 use Rattle.control.specs.declared.ending.Ending.{Ending}
 use Rattle.method.specs.declared.verdict.Verdict.{Verdict}

@@ -1,15 +1,15 @@
 -- One error more of a list makes the numbers of the longer list.
 use Prim.Native.Nat.{ℕ, _+_, _*_, _<_}
 use mathlib.Core.Bool.{Bool, true, false, cond, _||_}
-use mathlib.Core.List.{List}
+use mathlib.Core.List.{List, [], _∷_, _++_}
 use mathlib.Core.Path.{_≡_, refl, sym, _∙_, ap}
 use native.Mathlib.Omega.{arith}
 use lib.Dec.{ltb}
 use lib.IntN.{ℤ, pos, natAbs, _+ℤ_}
 use lib.ListN.{length, getD, take}
 use Rattle.std.specs.shelf.Lists.{folded, sumBy, countBy}
-use Rattle.std.proofs.shelf.Lists.{length-take-le}
-use Rattle.std.proofs.shelf.Sums.{folded-more, sumBy-more}
+use Rattle.std.proofs.shelf.Lists.{length-push, length-take-le}
+use Rattle.std.proofs.shelf.Sums.{folded-more, folded-push, sumBy-more, sumBy-push}
 use Rattle.std.proofs.shelf.Ways.{tells}
 use Rattle.method.specs.Meaning.{Meaning}
 use Rattle.control.specs.Attempts.{tally-after}
@@ -39,3 +39,13 @@ module _ (m : Meaning) (d : ℕ) (es : List ℤ) (i : ℕ) (h : i < length es) w
       (sym (folded-more (λ s e. s +ℤ counted e) (pos 0) es i (pos 0) h))
       (sym (sumBy-more (λ e. natAbs (counted e) * natAbs (counted e)) es i (pos 0) h))
       (one-wild (countBy is-wild (take i es)) (is-wild (getD es i (pos 0))) ∙ ap (ltb 0) (sym (sumBy-more (λ e. cond (is-wild e) 1 0) es i (pos 0) h)))
+
+-- the same of an error behind a list
+pub tally-push : (m : Meaning) (d : ℕ) (es : List ℤ) (e : ℤ) → tally-of m d (es ++ e ∷ []) ≡ tally-after m d (tally-of m d es) e
+tally-push m d es e =
+    same-record (λ n x s q w. record { observations = n; outs = x; sum = s; squares = q; wild = w }) _ _ _ _ _ _ _ _ _ _
+    (length-push es e)
+    (sumBy-push (λ z. cond (in-tolerance (m .margin) d z) 0 1) es e)
+    (folded-push (λ s z. s +ℤ counted z) (pos 0) es e)
+    (sumBy-push (λ z. natAbs (counted z) * natAbs (counted z)) es e)
+    (ap (ltb 0) (sumBy-push (λ z. cond (is-wild z) 1 0) es e) ∙ sym (one-wild (countBy is-wild es) (is-wild e)))

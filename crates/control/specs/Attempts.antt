@@ -18,19 +18,19 @@ use Rattle.control.specs.declared.tally.Tally.{Tally}
 abbrev pub none-yet : Tally
 none-yet = record { observations = 0; outs = 0; sum = pos 0; squares = 0; wild = false }
 
--- one observation more, of the error e, in tolerance or not
-abbrev pub added : Tally → Bool → ℤ → Tally
-added t ok e = record {
+-- one observation more, of the error e, with x out by then
+abbrev pub added : Tally → ℕ → ℤ → Tally
+added t x e = record {
   observations = t .observations + 1;
-  outs = t .outs + cond ok 0 1;
+  outs = x;
   sum = t .sum +ℤ counted e;
   squares = t .squares + natAbs (counted e) * natAbs (counted e);
   wild = t .wild || is-wild e;
 }
 
--- the same under a plan, with the tolerance d
+-- the same under a plan, with the tolerance d: out of tolerance, one more is out
 abbrev pub tally-after : Meaning → ℕ → Tally → ℤ → Tally
-tally-after m d t e = added t (in-tolerance (m .margin) d e) e
+tally-after m d t e = added t (t .outs + cond (in-tolerance (m .margin) d e) 0 1) e
 
 -- how large an attempt's numbers can be
 abbrev pub Sound : Tally → Type 0
@@ -38,6 +38,7 @@ Sound t =
     (t .observations ≤ 48) × (t .outs ≤ t .observations) × (natAbs (t .sum) ≤ 2000 * t .observations)
     × (t .squares ≤ 4000000 * t .observations)
 
+-- fit where the test holds
 abbrev pub fit-if : Bool → Verdict
 fit-if b = cond b Fit Unfit
 
@@ -45,12 +46,17 @@ fit-if b = cond b Fit Unfit
 abbrev pub cut-verdict : Meaning → ℕ → ℕ → Option Verdict
 cut-verdict m n x = cond (leb (m .cut) n) (Some (fit-if (leb x (m .cut-number)))) None
 
--- Observation n, with x out by then: in tolerance the accept number makes the attempt fit, out of it the reject number
--- makes it unfit, and where that does not end it the cut may.
+-- observation n in tolerance, with x out: the accept number may make the attempt fit, and else the cut may end it
+abbrev pub verdict-in : Meaning → ℕ → ℕ → Option Verdict
+verdict-in m n x = cond (leZ (pos x) (m .accept n)) (Some Fit) (cut-verdict m n x)
+
+-- observation n out of tolerance, with x out: the reject number may make the attempt unfit, and else the cut may end it
+abbrev pub verdict-out : Meaning → ℕ → ℕ → Option Verdict
+verdict-out m n x = cond (leb (m .reject n) x) (Some Unfit) (cut-verdict m n x)
+
+-- observation n, in tolerance or not, with x out
 abbrev pub verdict-at : Meaning → ℕ → ℕ → Bool → Option Verdict
-verdict-at m n x ok =
-    cond ok (cond (leZ (pos x) (m .accept n)) (Some Fit) (cut-verdict m n x))
-    (cond (leb (m .reject n) x) (Some Unfit) (cut-verdict m n x))
+verdict-at m n x ok = cond ok (verdict-in m n x) (verdict-out m n x)
 
 -- what the attempt's next observation, of the error e, says
 abbrev pub verdict-of : Meaning → ℕ → Tally → ℤ → Option Verdict

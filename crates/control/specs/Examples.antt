@@ -21,6 +21,7 @@ use Rattle.control.specs.declared.distribution.Distribution.{Distribution}
 use Rattle.control.specs.declared.distribution.Distribution.the-variants.{Trapezoid, Uniform}
 use Rattle.control.specs.declared.ending.Ending.{Ending}
 
+-- i is one of the list
 abbrev pub listed : ℕ → List ℕ → Bool
 listed i [] = false
 listed i (k ∷ ks) = eqb i k || listed i ks
@@ -38,9 +39,11 @@ usual m k = tolerance-under m k 100 20
 abbrev pub ends : Meaning → ℕ → List ℕ → Option Ending
 ends m count out = sequence-end m (usual m Trapezoid) (out-at count 1 out)
 
+-- it ends fit at observation i
 abbrev pub fit-at : ℕ → Option Ending
 fit-at i = Some (record { verdict = Fit; at = i })
 
+-- it ends unfit at observation i
 abbrev pub unfit-at : ℕ → Option Ending
 unfit-at i = Some (record { verdict = Unfit; at = i })
 
@@ -56,6 +59,7 @@ skewed = replicate 8 (pos 80) ++ replicate 7 (negsuc 79)
 abbrev pub balanced : List ℤ
 balanced = replicate 7 (pos 87) ++ (replicate 7 (negsuc 86) ++ (pos 0 ∷ []))
 
+-- the worked examples together
 pub record Examples : Type 0 where
   -- the ends of sequences
   pub strengthened-all-in : ends strengthened-control 44 [] ≡ fit-at 25

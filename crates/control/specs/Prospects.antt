@@ -1,16 +1,17 @@
 -- The soonest observation at which an attempt could end fit.
 use Prim.Native.Nat.{ℕ, zero, suc, _+_, _-_, _≤_}
-use mathlib.Core.List.{List, [], _∷_}
+use mathlib.Core.List.{List, [], _∷_, _++_}
 use mathlib.Core.Bool.{Bool, true, cond, _&&_, _||_}
 use mathlib.Core.Path.{_≡_}
 use lib.Dec.{leb, eqb}
 use lib.IntN.{ℤ, pos}
 use lib.ListN.{length}
 use lib.Signed.{leZ}
+use Rattle.std.specs.declared.option.Option.the-variants.{None}
 use Rattle.method.specs.Meaning.{Meaning}
 use Rattle.method.specs.declared.verdict.Verdict.the-variants.{Fit}
-use Rattle.control.specs.Sequences.{run}
-use Rattle.control.specs.Steadiness.{Ends}
+use Rattle.control.specs.Sequences.{Ends, sequence-end}
+use Rattle.control.specs.Tallies.{count-out}
 use Rattle.control.specs.Tolerances.{in-tolerance}
 
 -- with x out, an observation i in tolerance would end the attempt fit: by the accept number, or at the cut by the cut number
@@ -31,12 +32,18 @@ abbrev pub All-in : Meaning → ℕ → List ℤ → Type 0
 All-in m d [] = Unit {0}
 All-in m d (e ∷ es) = (in-tolerance (m .margin) d e ≡ true) × All-in m d es
 
--- Of errors to come after n observations, up to the cut, that are all in tolerance:
--- where r is not 0 they end the attempt fit at r once they reach it, and where it is 0 they never end it fit.
-pub record Foretold (m : Meaning) (n x r d : ℕ) (es : List ℤ) : Type 0 where
-  pub fit : (r ≡ 0 → ⊥) → r ≤ n + length es → Ends (run m d n x es) Fit r
-  pub never : r ≡ 0 → (i : ℕ) → Ends (run m d n x es) Fit i → ⊥
+-- an attempt that has observed these errors goes on: there are n of them, x out of tolerance
+pub record Going-on (m : Meaning) (d n x : ℕ) (es : List ℤ) : Type 0 where
+  pub made : length es ≡ n
+  pub out : count-out m d es ≡ x
+  pub unended : sequence-end m d es ≡ None
 
--- The soonest says what will happen.
+-- With errors to come that are all in tolerance, the attempt ends fit at r once they reach it, where r is not 0;
+-- where r is 0 it never ends fit.
+pub record Foretold (m : Meaning) (d r : ℕ) (es to-come : List ℤ) : Type 0 where
+  pub fit : (r ≡ 0 → ⊥) → r ≤ length es + length to-come → Ends (sequence-end m d (es ++ to-come)) Fit r
+  pub never : r ≡ 0 → (i : ℕ) → Ends (sequence-end m d (es ++ to-come)) Fit i → ⊥
+
+-- The soonest observation says what will happen to every attempt with n observations and x out.
 abbrev pub Foretells : Meaning → ℕ → ℕ → ℕ → Type 0
-Foretells m n x r = (d : ℕ) (es : List ℤ) → n + length es ≤ m .cut → All-in m d es → Foretold m n x r d es
+Foretells m n x r = (d : ℕ) (es to-come : List ℤ) → Going-on m d n x es → All-in m d to-come → Foretold m d r es to-come

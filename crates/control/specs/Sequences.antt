@@ -51,6 +51,10 @@ Ends-first m d es (Some e) = First-at (verdict-after m d es) (length es) (e .ver
 abbrev pub Ends-by-cut : Meaning → List ℤ → Option Ending → Type 0
 Ends-by-cut m es r = m .cut ≤ length es → (e : Ending) × (r ≡ Some e) × (e .at ≤ m .cut)
 
+-- it ends with the verdict v at observation i
+abbrev pub Ends : Option Ending → Verdict → ℕ → Type 0
+Ends r v i = r ≡ Some (record { verdict = v; at = i })
+
 -- the end that a verdict makes of an attempt with these numbers
 abbrev pub ending-of : Tally → Option Verdict → Option Ending
 ending-of t None = None
@@ -60,5 +64,4 @@ ending-of t (Some v) = Some (record { verdict = v; at = t .observations })
 abbrev pub Brought : Meaning → ℕ → List ℤ → Tally → Option Verdict → Type 0
 Brought m d es t None = (t ≡ tally-of m d es) × (sequence-end m d es ≡ None)
 Brought m d es t (Some v) =
-    (t ≡ tally-of m d (take (t .observations) es))
-    × (sequence-end m d es ≡ Some (record { verdict = v; at = t .observations }))
+    (t ≡ tally-of m d (take (t .observations) es)) × Ends (sequence-end m d es) v (t .observations)

@@ -36,10 +36,11 @@ settled-at n i a b c = cond (leb 3 i && agree n a b c) (Some Agreement) (cond (l
 abbrev pub no-codes : Codes
 no-codes = record { count = 0; last = pos 0; previous = pos 0 }
 
--- one settling code more, and how it ends the settling
+-- one settling code more
 abbrev pub with-code : Codes → ℤ → Codes
 with-code k c = record { count = k .count + 1; last = c; previous = k .last }
 
+-- how that code ends the settling, if it does
 abbrev pub settled-by : ℕ → Codes → ℤ → Option SettledBy
 settled-by n k c = settled-at n (k .count + 1) c (k .last) (k .previous)
 

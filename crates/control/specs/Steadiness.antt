@@ -5,17 +5,12 @@ use mathlib.Core.Path.{_≡_}
 use lib.IntN.{ℤ, pos, natAbs}
 use lib.ListN.{length, getD}
 use Rattle.std.specs.declared.option.Option.{Option}
-use Rattle.std.specs.declared.option.Option.the-variants.{Some}
 use Rattle.method.specs.Meaning.{Meaning}
 use Rattle.method.specs.declared.verdict.Verdict.{Verdict}
 use Rattle.method.specs.declared.verdict.Verdict.the-variants.{Fit, Unfit}
-use Rattle.control.specs.Sequences.{sequence-under}
+use Rattle.control.specs.Sequences.{Ends, sequence-under}
 use Rattle.control.specs.declared.distribution.Distribution.{Distribution}
 use Rattle.control.specs.declared.ending.Ending.{Ending}
-
--- it ends with the verdict v at observation i
-abbrev pub Ends : Option Ending → Verdict → ℕ → Type 0
-Ends r v i = r ≡ Some (record { verdict = v; at = i })
 
 -- where the first ends with v, so does the second, and no later
 abbrev pub Leads : Verdict → Option Ending → Option Ending → Type 0

@@ -69,7 +69,8 @@ impl Attempt {
     pub fn observe<P: Plan>(self, plan: &P, error: i32) -> Progress
         ensures { λ r. ⌜ elim r [ Progress.GoesOn a ↦ Observed (meaning (now (plan .entry))) (self .tolerance .width) (self .tally) error (a .tally) None × (a .tolerance ≡ self .tolerance) | Progress.Ended f ↦ Observed (meaning (now (plan .entry))) (self .tolerance .width) (self .tally) error (f .tally) (Some (f .verdict)) × (f .tolerance ≡ self .tolerance) ] ⌝ }
     {
-        let (tally, verdict) = observed(plan, self.tolerance.width, self.tally, error);
-        as_progress(self.tolerance, tally, verdict)
+        let Attempt { tally, tolerance } = self;
+        let (tally, verdict) = observed(plan, tolerance.width, tally, error);
+        as_progress(tolerance, tally, verdict)
     }
 }
