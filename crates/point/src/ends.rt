@@ -75,8 +75,18 @@ fn first_full<M: Plan>(main: &M, trial: Trial, dominance: bool, v: Verdict, q: V
     let made = trial.tally.observations;
     match (v, q) {
         (Verdict::Fit, Verdict::Fit) => decide(trial, v, Some(q), dominance, Verdict::Fit),
-        (Verdict::Fit, Verdict::Unfit) => retry(main, dominance, trial, Before::SequenceAlone(made)),
-        (Verdict::Unfit, Verdict::Fit) => retry(main, dominance, trial, Before::QuantityAlone(made)),
+        (Verdict::Fit, Verdict::Unfit) => retry(
+            main,
+            dominance,
+            trial,
+            Before::SequenceAlone(made),
+        ),
+        (Verdict::Unfit, Verdict::Fit) => retry(
+            main,
+            dominance,
+            trial,
+            Before::QuantityAlone(made),
+        ),
         (Verdict::Unfit, Verdict::Unfit) => decide(trial, v, Some(q), dominance, Verdict::Unfit),
     }
 }

@@ -83,7 +83,13 @@ pub(crate) fn first_attempt<M: Plan, S: Plan>(
     ensures taken { λ r. ⌜ taken-by r ≡ settled ⌝ }
 {
     match begins_with(control, carried) {
-        PlanUsed::Main => begin(main, carried.dominance, setting, settled, Course::Main(Before::Nothing)),
+        PlanUsed::Main => begin(
+            main,
+            carried.dominance,
+            setting,
+            settled,
+            Course::Main(Before::Nothing),
+        ),
         PlanUsed::Short => begin(short, carried.dominance, setting, settled, Course::Short),
     }
 }
@@ -111,7 +117,12 @@ pub(crate) fn note<P: Plan>(plan: &P, trial: Trial, code: i32) -> (Trial, Option
     ensures room { λ r. ⌜ (r .1 ≡ None → r .0 .tally .observations ≤ 47) ⌝ }
     ensures more { λ r. ⌜ r .0 .tally .observations ≡ trial .tally .observations + 1 ⌝ ∗ ⌜ r .0 .settled ≡ trial .settled ⌝ ∗ ⌜ r .0 .course ≡ trial .course ⌝ }
 {
-    let error = error_of(plan, trial.setting.signal, trial.tally.observations + 1, code);
+    let error = error_of(
+        plan,
+        trial.setting.signal,
+        trial.tally.observations + 1,
+        code,
+    );
     let (tally, verdict) = observed(plan, trial.width, trial.tally, error);
     (with_numbers(trial, tally), verdict)
 }

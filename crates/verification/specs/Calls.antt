@@ -11,11 +11,11 @@ use Rattle.std.specs.declared.result.Result.{Result}
 use Rattle.std.specs.declared.result.Result.the-variants.{Ok, Err}
 use Rattle.method.specs.Meaning.{Meaning}
 use Rattle.method.specs.declared.question.Question.{Question}
-use Rattle.method.specs.declared.question.Question.the-variants.{NotEnded, NoPointOpen, PointOpen, Undecided, CodeLegal, StillSettling, Decided as AskDecided, FitsBuffer}
+use Rattle.method.specs.declared.question.Question.the-variants.{NotEnded, NoPointOpen, PointOpen, Undecided, CodeLegal, StillSettling, Decided as AskDecided}
 use Rattle.method.specs.declared.verdict.Verdict.{Verdict}
 use Rattle.method.specs.declared.verdict.Verdict.the-variants.{Fit, Unfit}
 use Rattle.journal.specs.Journal.{record-bytes}
-use Rattle.journal.specs.Writing.{laid}
+use Rattle.journal.specs.Writing.{answered, laid}
 use Rattle.journal.specs.declared.record.Record.{Record}
 use Rattle.point.specs.Ends.{leaves}
 use Rattle.point.specs.Levels.{legal-code, observing-level-of, settling-level-of}
@@ -116,14 +116,16 @@ closed-with p o = record {
 abbrev pub closing-record : Progress → Outcome → Record
 closing-record p o = point-record (p .closed + 1) o
 
+-- by what writing the record answered
+abbrev pub closed-by : Progress → Outcome → Result ℕ Question → Reply Closed
+closed-by p o (Ok n) = done (closed-with p o) (record { verdict = o .verdict; length = n })
+closed-by p o (Err q) = refused p q
+
 abbrev pub closed-at : Progress → ℕ → ℕ → Phase → Reply Closed
 closed-at p place len Waiting = refused p PointOpen
 closed-at p place len (Settling _) = refused p AskDecided
 closed-at p place len (Observing _) = refused p AskDecided
-closed-at p place len (Decided o) =
-    cond (leb (place + length (record-bytes (closing-record p o))) len)
-    (done (closed-with p o) (record { verdict = o .verdict; length = length (record-bytes (closing-record p o)) }))
-    (refused p FitsBuffer)
+closed-at p place len (Decided o) = closed-by p o (answered true (length (record-bytes (closing-record p o))) place len)
 
 abbrev pub bytes-at : Progress → ℕ → List ℕ → Phase → List ℕ
 bytes-at p place old Waiting = old

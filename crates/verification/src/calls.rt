@@ -10,10 +10,9 @@ ghost use mathlib.Core.Path.{_≡_};
 use crate::closed::Closed;
 use crate::declared::Declared;
 use crate::declared::StopRule;
-use crate::progress::Progress;
-use crate::records::record_of;
 use crate::machine::Verification;
-use journal::write_record;
+use crate::progress::Progress;
+use crate::records::write_point;
 use method::Plan;
 use method::Question;
 use method::Verdict;
@@ -83,9 +82,13 @@ impl<M: Plan, S: Plan> Verification<M, S> {
         let Phase::Waiting = self.progress.phase else {
             return Err(Question::NoPointOpen);
         };
-        let setting = check_setting(signal, meter, reference, agreement)?;
-        self.progress.phase = open_point(setting);
-        Ok(())
+        match check_setting(signal, meter, reference, agreement) {
+            Ok(setting) => {
+                self.progress.phase = open_point(setting);
+                Ok(())
+            }
+            Err(question) => Err(question),
+        }
     }
 
     // What is to be set: the level, the number of the coming observation, and the soonest fit.
@@ -193,13 +196,16 @@ impl<M: Plan, S: Plan> Verification<M, S> {
             Phase::Waiting => Err(Question::PointOpen),
             Phase::Settling(_) | Phase::Observing(_) => Err(Question::Decided),
             Phase::Decided(outcome) => {
-                let record = record_of(self.progress.closed + 1, outcome);
-                let length = write_record(journal, place, &record)?;
-                self.progress = one_closed(self.progress, outcome);
-                Ok(Closed {
-                    verdict: outcome.verdict,
-                    length,
-                })
+                match write_point(journal, place, self.progress.closed + 1, outcome) {
+                    Ok(length) => {
+                        self.progress = one_closed(self.progress, outcome);
+                        Ok(Closed {
+                            verdict: outcome.verdict,
+                            length,
+                        })
+                    }
+                    Err(question) => Err(question),
+                }
             }
         }
     }

@@ -2,16 +2,17 @@
 mod calls;
 mod closed;
 mod declared;
+mod machine;
 mod notice;
 mod orders;
 mod progress;
 mod records;
 mod stages;
-mod machine;
 
 pub use closed::Closed;
 pub use declared::Declared;
 pub use declared::StopRule;
+pub use machine::Verification;
 pub use notice::Check;
 pub use notice::Notice;
 pub use orders::Orders;
@@ -20,4 +21,3 @@ pub use stages::Inspection;
 pub use stages::Insulation;
 pub use stages::Ready;
 pub use stages::Trial;
-pub use machine::Verification;

@@ -1,8 +1,10 @@
 // The record of a decided point.
 ghost use Prim.Native.Nat.{_≤_};
-ghost use Rattle.journal.specs.Journal.{legal-record};
+ghost use Rattle.journal.specs.Journal.{legal-record, record-bytes};
+ghost use Rattle.journal.specs.Writing.{answered, laid};
 ghost use Rattle.point.specs.Bounds.{Within};
 ghost use Rattle.verification.specs.Records.{first-of, point-record, quantity-found, sequence-fields, three-step-fields};
+ghost use lib.ListN.{length};
 ghost use mathlib.Core.Bool.{true};
 ghost use mathlib.Core.Path.{_≡_};
 use journal::FirstAttempt;
@@ -10,6 +12,8 @@ use journal::Quantity;
 use journal::Record;
 use journal::SequenceFields;
 use journal::ThreeStepFields;
+use journal::write_record;
+use method::Question;
 use method::Verdict;
 use point::Before;
 use point::Course;
@@ -85,4 +89,22 @@ pub(crate) fn record_of(point: u32, outcome: Outcome) -> Record
         Course::Main(before) => Record::Sequence(sequence_record(point, before, outcome)),
         Course::Short => Record::ThreeStep(three_step_record(point, outcome)),
     }
+}
+
+// Writes the record of a point into the journal at the place named, and answers its length.
+pub(crate) fn write_point(
+    journal: &mut [u8],
+    place: usize,
+    point: u32,
+    outcome: Outcome,
+) -> Result<usize, Question>
+    requires some { ⌜ 1 ≤ point ⌝ }
+    requires point { ⌜ point ≤ 999 ⌝ }
+    requires within { ⌜ Within (outcome .trial) ⌝ }
+    requires made { ⌜ 1 ≤ outcome .trial .tally .observations ⌝ }
+    ensures answer { λ r. ⌜ r ≡ answered true (length (record-bytes (point-record point outcome))) place (length (now (journal .entry))) ⌝ }
+    ensures bytes { λ _. ⌜ now (journal .exit) ≡ laid true (record-bytes (point-record point outcome)) place (now (journal .entry)) ⌝ }
+{
+    let record = record_of(point, outcome);
+    write_record(journal, place, &record)
 }
