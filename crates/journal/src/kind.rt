@@ -16,6 +16,14 @@ pub struct Head {
     pub(crate) length: usize,
 }
 
+impl Head {
+    pub(crate) fn new(number: u8, length: usize) -> Head
+        ensures { λ r. ⌜ r ≡ record { number = number; length = length } ⌝ }
+    {
+        Head { number, length }
+    }
+}
+
 // A kind is added by writing down its fields. Writing, reading and the proof that they undo each other are common to all.
 pub trait RecordKind {
     type Fields: Drop;
