@@ -42,6 +42,9 @@ granted true true n k h = (refl, refl, cc)
 granted true false n k h = let z : _≡_ {A = ℕ} 0 1 = cc in absurd (omega arith)
 granted false b n k h = let z : _≡_ {A = ℕ} 0 1 = cc in absurd (omega arith)
 
+pub headed-is : {F : Type 0} (m : Format F) (bs : List ℕ) (w l : ℕ) → w ≡ word-of (m .size) bs → l ≡ m .size → _≡_ {A = Unpacking} (record { word = (w * 2 ^ (132 - 8 * l)) % 2 ^ 128; «in_range» = true }) (headed m bs)
+headed-is m bs w l we le = rw (we, le) refl
+
 module _ {F : Type 0} (m : Format F) (s : Sound m) where
   -- as many numbers as fields
   numbered : (f : F) → length (all-numbers m f) ≡ length (row m)

@@ -18,25 +18,29 @@ put f z b = record {
   «in_range» = b .«in_range» && in-range f z;
 }
 
+-- each of these fields behind the one before
 abbrev pub put-all : List Field → List ℤ → Packing → Packing
 put-all [] zs b = b
 put-all (f ∷ fs) [] b = b
 put-all (f ∷ fs) (z ∷ zs) b = put-all fs zs (put f z b)
 
--- the number of the first field of 128 bits, and what is left behind it
+-- the number of the first field of 128 bits
 unfoldable pub first : Field → Unpacking → ℤ
 first f b = told f (b .word / 2 ^ (128 - f .width))
 
+-- the bits behind the first field, and whether its number, too, is in its range
 unfoldable pub behind : Field → Unpacking → Unpacking
 behind f b = record {
   word = (b .word * 2 ^ f .width) % 2 ^ 128;
   «in_range» = b .«in_range» && in-range f (told f (b .word / 2 ^ (128 - f .width)));
 }
 
+-- the numbers of the first fields
 abbrev pub take-all : List Field → Unpacking → List ℤ
 take-all [] b = []
 take-all (f ∷ fs) b = first f b ∷ take-all fs (behind f b)
 
+-- what is left behind them
 abbrev pub behind-all : List Field → Unpacking → Unpacking
 behind-all [] b = b
 behind-all (f ∷ fs) b = behind-all fs (behind f b)

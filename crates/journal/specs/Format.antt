@@ -29,6 +29,7 @@ legal m f = all-in-range (m .fields) (m .numbers f) && m .related f
 abbrev pub row : {F : Type 0} → Format F → List Field
 row m = kind-number ∷ m .fields
 
+-- and its number in front of the fields' numbers
 abbrev pub all-numbers : {F : Type 0} → Format F → F → List ℤ
 all-numbers m f = pos (m .number) ∷ m .numbers f
 
@@ -36,7 +37,7 @@ all-numbers m f = pos (m .number) ∷ m .numbers f
 abbrev pub fill : {F : Type 0} → Format F → ℕ
 fill m = 8 * m .size - width (row m)
 
--- the record as one number
+-- the record as one number: the kind and the fields, and zeros for the fill
 abbrev pub word : {F : Type 0} → Format F → F → ℕ
 word m f = packed-after 0 (row m) (all-numbers m f) * 2 ^ fill m
 
@@ -51,11 +52,13 @@ stands f =
     && (leb (f .width) 30
     && cond (ltZ (f .low) (pos 0)) (leZ (negsuc (2 ^ (f .width - 1) - 1)) (f .low) && leZ (f .high) (pos (2 ^ (f .width - 1) - 1))) (leZ (f .high) (pos (2 ^ f .width - 1))))
 
+-- so can each field's of a list
 abbrev pub all-stand : List Field → Bool
 all-stand [] = true
 all-stand (f ∷ fs) = stands f && all-stand fs
 
--- a kind whose records are told apart by their bytes
+-- a kind whose records are told apart by their bytes: it has 1 to 15 bytes and a number that its four bits can hold, its fields leave less
+-- than a byte of fill, its fields' ranges can be told apart, each field has a number, and fields and numbers in range tell each other
 pub record Sound {F : Type 0} (m : Format F) : Type 0 where
   pub some : 0 < m .size
   pub short : m .size ≤ 15

@@ -35,6 +35,7 @@ record-bytes (ThreeStep f) = encoded three-step f
 record-bytes (Certificate f) = encoded certificate f
 record-bytes (Notice f) = encoded notice f
 
+-- what was read, as a record of its kind
 abbrev pub named : {F : Type 0} → (F → Record) → Result F Fault → Result Record Fault
 named c (Ok f) = Ok (c f)
 named c (Err e) = Err e
@@ -52,6 +53,7 @@ by-kind k p bs =
     (of-kind notice Notice k p bs
     (Err (fault RecordKindKnown Kind p)))))
 
+-- the record at the front of bytes
 abbrev pub decoded-any : Place → List ℕ → Result Record Fault
 decoded-any p bs = by-kind (kind-of bs) p bs
 
@@ -59,6 +61,7 @@ decoded-any p bs = by-kind (kind-of bs) p bs
 abbrev pub place-of : ℕ → ℕ → Place
 place-of i n = record { ordinal = n + 1; «first_byte» = i }
 
+-- what was read, with its place
 abbrev pub placed : Place → Result Record Fault → Result (Option Placed) Fault
 placed p (Ok r) = Ok (Some (record { place = p; «record» = r }))
 placed p (Err e) = Err e
@@ -67,12 +70,13 @@ placed p (Err e) = Err e
 abbrev pub next-of : List ℕ → ℕ → ℕ → Result (Option Placed) Fault
 next-of bs i n = cond (eqb i (length bs)) (Ok None) (placed (place-of i n) (decoded-any (place-of i n) (drop i bs)))
 
--- how far an answer takes the reader on, in bytes and in records
+-- how many bytes an answer takes the reader on
 abbrev pub span : Result (Option Placed) Fault → ℕ
 span (Ok (Some q)) = length (record-bytes (q .«record»))
 span (Ok None) = 0
 span (Err e) = 0
 
+-- and how many records
 abbrev pub count : Result (Option Placed) Fault → ℕ
 count (Ok (Some q)) = 1
 count (Ok None) = 0
@@ -83,6 +87,7 @@ abbrev pub journal-bytes : List Record → List ℕ
 journal-bytes [] = []
 journal-bytes (r ∷ rs) = record-bytes r ++ journal-bytes rs
 
+-- the fields of every record are in range
 abbrev pub all-legal : List Record → Bool
 all-legal [] = true
 all-legal (r ∷ rs) = legal-record r && all-legal rs

@@ -59,6 +59,7 @@ three-step = record {
 abbrev pub earned : CertificateFields → Verdict
 earned f = cond (is 0 (f .unfit) && (leZ (f .closed) (f .declared) && leZ (f .declared) (f .closed))) Fit Unfit
 
+-- two verdicts are the same
 abbrev pub same : Verdict → Verdict → Bool
 same Fit Fit = true
 same Fit Unfit = false

@@ -18,6 +18,7 @@ use Rattle.journal.specs.declared.fault.Place.{Place}
 use Rattle.journal.specs.declared.fault.Layer.{Layer}
 use Rattle.journal.specs.declared.fault.Layer.the-variants.{Kind, Bits, Field}
 
+-- the fault of a question in its layer, at a record's place
 abbrev pub fault : Question → Layer → Place → Fault
 fault q l p = record { question = q; layer = l; place = p }
 

@@ -48,37 +48,15 @@ pub impl RecordKind for Certificate as CertificateKind {
     ghost format = { certificate };
 
     fn head() -> Head {
-        Head {
-            number: Self::NUMBER,
-            length: Self::LENGTH,
-        }
+        Head::new(Self::NUMBER, Self::LENGTH)
     }
 
     fn apart(bytes: &[u8]) -> Option<(u128, &[u8])> {
-        let [
-            kind_declared,
-            declared_closed,
-            closed_1,
-            unfit_1,
-            unfit_verdict_codes,
-            codes_1,
-            codes_2,
-            codes_fill,
-            rest @ ..,
-        ] = bytes
-        else {
+        // Each byte is named by what it holds bits of: declared d, closed c, unfit u, the verdict v, the codes n.
+        let [kind_d, d_c, c_1, u_1, u_v_n, n_1, n_2, n_3, rest @ ..] = bytes else {
             return None;
         };
-        let word = u64::from_be_bytes([
-            *kind_declared,
-            *declared_closed,
-            *closed_1,
-            *unfit_1,
-            *unfit_verdict_codes,
-            *codes_1,
-            *codes_2,
-            *codes_fill,
-        ]);
+        let word = u64::from_be_bytes([*kind_d, *d_c, *c_1, *u_1, *u_v_n, *n_1, *n_2, *n_3]);
         Some((word as u128, rest))
     }
 

@@ -1,7 +1,6 @@
 // Reading a record of any kind, by layers.
 ghost use Prim.Native.Nat.{_+_};
 ghost use Rattle.journal.specs.Cursor.{behind-all, headed, take-all};
-ghost use Rattle.journal.specs.Fields.{all-in-range};
 ghost use Rattle.journal.specs.Reading.{decoded, fault, ranged};
 ghost use Rattle.method.specs.declared.question.Question.the-variants.{AllBytesThere, FieldsInRange, FillZero};
 ghost use Rattle.std.specs.Results.{Cases};
@@ -37,8 +36,7 @@ fn whole<K: RecordKind>(bytes: &[u8], place: Place) -> Result<(Unpacking, &[u8])
 
 // The bit layer: is the fill zero?
 fn unfilled<K: RecordKind>(bits: &mut Unpacking, place: Place) -> Result<K::Fields, Fault>
-    requires { ⌜ now bits .«in_range» ≡ true ⌝ }
-    ensures asked { λ _. ⌜ now (bits .exit) .«in_range» ≡ all-in-range (K·RecordKind .format .fields) (take-all (K·RecordKind .format .fields) (now (bits .entry))) ⌝ }
+    ensures rest { λ _. ⌜ now (bits .exit) ≡ behind-all (K·RecordKind .format .fields) (now (bits .entry)) ⌝ }
     ensures answer { λ r. ⌜ Cases r (λ f. (eqb (behind-all (K·RecordKind .format .fields) (now (bits .entry)) .word) 0 ≡ true) × (f ≡ K·RecordKind .format .made (take-all (K·RecordKind .format .fields) (now (bits .entry))))) (λ e. (eqb (behind-all (K·RecordKind .format .fields) (now (bits .entry)) .word) 0 ≡ false) × (e ≡ fault FillZero Layer.Bits place)) ⌝ }
 {
     let fields = K::unpack(bits);

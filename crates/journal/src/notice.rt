@@ -26,10 +26,7 @@ pub impl RecordKind for Notice as NoticeKind {
     ghost format = { notice };
 
     fn head() -> Head {
-        Head {
-            number: Self::NUMBER,
-            length: Self::LENGTH,
-        }
+        Head::new(Self::NUMBER, Self::LENGTH)
     }
 
     fn apart(bytes: &[u8]) -> Option<(u128, &[u8])> {

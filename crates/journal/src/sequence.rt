@@ -58,13 +58,11 @@ pub impl RecordKind for Sequence as SequenceKind {
     ghost format = { sequence };
 
     fn head() -> Head {
-        Head {
-            number: Self::NUMBER,
-            length: Self::LENGTH,
-        }
+        Head::new(Self::NUMBER, Self::LENGTH)
     }
 
     fn apart(bytes: &[u8]) -> Option<(u128, &[u8])> {
+        // Each byte is named by what it holds bits of.
         let [
             kind_point,
             point_first,

@@ -29,37 +29,15 @@ pub impl RecordKind for ThreeStep as ThreeStepKind {
     ghost format = { three-step };
 
     fn head() -> Head {
-        Head {
-            number: Self::NUMBER,
-            length: Self::LENGTH,
-        }
+        Head::new(Self::NUMBER, Self::LENGTH)
     }
 
     fn apart(bytes: &[u8]) -> Option<(u128, &[u8])> {
-        let [
-            kind_point,
-            point_settling,
-            settling_d,
-            d_1,
-            d_2,
-            d_s,
-            s_1,
-            s_2,
-            rest @ ..,
-        ] = bytes
-        else {
+        // Each byte is named by what it holds bits of: the point p, the settling codes, D and S.
+        let [kind_p, p_set, set_d, d_1, d_2, d_s, s_1, s_2, rest @ ..] = bytes else {
             return None;
         };
-        let word = u64::from_be_bytes([
-            *kind_point,
-            *point_settling,
-            *settling_d,
-            *d_1,
-            *d_2,
-            *d_s,
-            *s_1,
-            *s_2,
-        ]);
+        let word = u64::from_be_bytes([*kind_p, *p_set, *set_d, *d_1, *d_2, *d_s, *s_1, *s_2]);
         Some((word as u128, rest))
     }
 
