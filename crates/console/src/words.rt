@@ -68,4 +68,11 @@ impl<'a> Words<'a> {
         self.rest = rest;
         if length == 0 { None } else { Some(word) }
     }
+
+    // What stands behind the words that were taken.
+    pub fn rest(&self) -> &'a [u8]
+        ensures { λ r. ⌜ now r ≡ now (now (self .entry) .rest) ⌝ }
+    {
+        self.rest
+    }
 }

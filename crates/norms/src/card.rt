@@ -1,8 +1,8 @@
 // The card of norms of one plan.
 ghost use Prim.Native.Nat.{_≤_};
 use crate::zone::Zone;
-use crate::zone::soonest_fit;
 use crate::zone::zone_of;
+use control::soonest_fit;
 use method::Plan;
 use std::io;
 
@@ -13,7 +13,7 @@ pub fn print_card<P: Plan>(rt: &impl Print, plan: &P) -> io::Result<()> {
         print_observation(rt, plan, i)?;
     }
     print_zones(rt, plan)?;
-    let soonest = soonest_fit(plan);
+    let soonest = soonest_fit(plan, 0, 0);
     println!(rt, "soonest fit, all in tolerance: {soonest}")
 }
 

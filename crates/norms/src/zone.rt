@@ -1,6 +1,5 @@
 // What a plan says at an observation with a number of outs.
-ghost use Prim.Native.Nat.{_≤_};
-ghost use Rattle.norms.specs.Zones.{SoonestFit, between-lines, zone-at};
+ghost use Rattle.norms.specs.Zones.{between-lines, zone-at};
 ghost use mathlib.Core.Path.{_≡_};
 use method::Plan;
 
@@ -38,17 +37,4 @@ fn past_lines<P: Plan>(plan: &P, i: u32, x: u32) -> Zone
     } else {
         Zone::Unfit
     }
-}
-
-// The observation at which an attempt ends fit that has none out.
-pub fn soonest_fit<P: Plan>(plan: &P) -> u32
-    ensures { λ r. ⌜ SoonestFit (meaning (now (plan .entry))) r ⌝ }
-{
-    let cut = plan.cut();
-    for i in 1..cut {
-        if plan.accept_number(i) >= 0 {
-            return i;
-        }
-    }
-    cut
 }
