@@ -1,0 +1,5 @@
+mod Steps
+mod CallByCall
+mod Counting
+mod Stopping
+mod Lawful
