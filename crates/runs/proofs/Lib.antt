@@ -3,3 +3,4 @@ mod CallByCall
 mod Counting
 mod Stopping
 mod Lawful
+mod Sparings
