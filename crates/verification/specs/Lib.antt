@@ -2,3 +2,4 @@ pub mod Ordering
 pub mod Manual
 pub mod Records
 pub mod Calls
+pub mod Certificates

@@ -1,5 +1,7 @@
-// A verification from its manual signals to its last closed point, over any main and any short plan.
+// A verification from its manual signals to its certificate, over any main and any short plan.
 mod calls;
+mod certificates;
+mod certified;
 mod closed;
 mod declared;
 mod machine;
@@ -9,6 +11,7 @@ mod progress;
 mod records;
 mod stages;
 
+pub use certified::Certified;
 pub use closed::Closed;
 pub use declared::Declared;
 pub use declared::StopRule;

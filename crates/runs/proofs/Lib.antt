@@ -1,0 +1,6 @@
+mod Steps
+mod CallByCall
+mod Counting
+mod Stopping
+mod Lawful
+mod Sparings

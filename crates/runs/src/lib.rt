@@ -1,0 +1,13 @@
+// Whole runs: any list of calls on a new verification, and the laws that hold of every such run.
+mod answer;
+mod audits;
+mod call;
+mod lists;
+mod outcome;
+
+pub use answer::Answer;
+pub use audits::audit;
+pub use call::Call;
+pub use lists::run;
+pub use outcome::Audit;
+pub use outcome::Outcome;
