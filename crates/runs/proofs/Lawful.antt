@@ -1,6 +1,7 @@
 -- The laws of runs, together.
 use Rattle.control.proofs.SmallerErrors.{steady}
 use Rattle.method.specs.Meaning.{Meaning, Ranged}
+use Rattle.runs.proofs.Buffers.{any-buffer}
 use Rattle.runs.proofs.Counting.{counts, takes-few, takes-legal}
 use Rattle.runs.proofs.Stopping.{takes-no-more, verdicts-agree}
 use Rattle.runs.specs.Laws.{Laws}
@@ -14,4 +15,5 @@ laws m s rm rs = record {
   steady-short = steady s;
   verdicts-agree = verdicts-agree m s;
   takes-no-more = takes-no-more m s;
+  any-buffer = any-buffer;
 }

@@ -1,5 +1,5 @@
 -- What holds of every run, whatever the list of calls. The plans are given by their meanings, main m and short s.
-use Prim.Native.Nat.{ℕ, _≤_}
+use Prim.Native.Nat.{ℕ, _+_, _≤_}
 use mathlib.Core.Bool.{Bool, true, not, _&&_}
 use mathlib.Core.List.{List}
 use mathlib.Core.Path.{_≡_}
@@ -16,12 +16,13 @@ use Rattle.runs.specs.Answers.{accepts-code, codes-accepted, none-closed, open
 use Rattle.runs.specs.Runs.{answer-to, answers-to, came, step}
 use Rattle.runs.specs.declared.call.Call.{Call}
 use Rattle.runs.specs.declared.call.Call.the-variants.{Code}
-use Rattle.verification.specs.Calls.{fresh}
+use Rattle.verification.specs.Calls.{closing, fresh}
 use Rattle.verification.specs.Certificates.{certificate-fields}
 use Rattle.verification.specs.Ordering.{ended}
 use Rattle.verification.specs.declared.declared.Declared.{Declared}
 use Rattle.verification.specs.declared.declared.StopRule.{StopRule}
 use Rattle.verification.specs.declared.declared.StopRule.the-variants.{FirstUnfit, AllPoints}
+use Rattle.verification.specs.declared.progress.Progress.{Progress}
 
 -- a point is open, and neither fit nor unfit yet
 abbrev pub undecided : Phase → Bool
@@ -66,7 +67,12 @@ Takes-no-more m s =
     (points : ℕ) (k : Control) (len : ℕ) (cs : List Call)
     → codes-accepted (answers-to m s (under FirstUnfit points k) len fresh cs) ≤ codes-accepted (answers-to m s (under AllPoints points k) len fresh cs)
 
--- the count is true; smaller errors never do worse, on either plan; the stop rules agree
+-- Each closing of a list may be lent a buffer of another length: into len bytes at a place it does and answers what it
+-- would into more bytes at a place as much further on. So what holds of lists with one length holds of those with many.
+abbrev pub Any-buffer : Type 0
+Any-buffer = (d : Declared) (p : Progress) (place len more : ℕ) → closing d p place len ≡ closing d p (place + more) (len + more)
+
+-- the count is true; smaller errors never do worse, on either plan; the stop rules agree; all this whatever buffers are lent
 pub record Laws (m s : Meaning) : Type 0 where
   pub counts : Counts m s
   pub takes-few : Takes-few m s
@@ -75,3 +81,4 @@ pub record Laws (m s : Meaning) : Type 0 where
   pub steady-short : Steady s
   pub verdicts-agree : Verdicts-agree m s
   pub takes-no-more : Takes-no-more m s
+  pub any-buffer : Any-buffer
