@@ -7,6 +7,7 @@ use console::parse_number;
 use console::parse_plan;
 use console::same_word;
 use journal::Signal;
+use runs::Call;
 use verification::Check;
 
 // Which of a verification's two plans.
@@ -14,16 +15,6 @@ use verification::Check;
 pub enum Role {
     Main,
     Short,
-}
-
-// The calls of a verification.
-#[derive(Clone, Copy)]
-pub enum Call {
-    Open(i32, i32, i32, i32),
-    Level,
-    Code(i32),
-    Late,
-    Close(usize),
 }
 
 pub enum Command {
@@ -36,6 +27,8 @@ pub enum Command {
     Orders(i32, i32, i32),
     Journal(i32),
     Call(Call),
+    Certificate(usize),
+    Audit,
     Dump,
 }
 
@@ -88,6 +81,10 @@ fn parse_rare(verb: &[u8], words: &mut Words) -> Result<Command, Reply> {
         parse_orders(words)
     } else if same_word(verb, b"journal") {
         Ok(Command::Journal(next_number(words)?))
+    } else if same_word(verb, b"certificate") {
+        Ok(Command::Certificate(next_place(words)?))
+    } else if same_word(verb, b"audit") {
+        Ok(Command::Audit)
     } else if same_word(verb, b"dump") {
         Ok(Command::Dump)
     } else {
@@ -124,7 +121,12 @@ fn parse_open(words: &mut Words) -> Result<Command, Reply> {
     let meter = next_number(words)?;
     let reference = next_number(words)?;
     let agreement = next_number(words)?;
-    Ok(Command::Call(Call::Open(signal, meter, reference, agreement)))
+    Ok(Command::Call(Call::Open {
+        signal,
+        meter,
+        reference,
+        agreement,
+    }))
 }
 
 fn parse_orders(words: &mut Words) -> Result<Command, Reply> {

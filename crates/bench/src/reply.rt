@@ -3,6 +3,8 @@ use method::Question;
 use method::Verdict;
 use method::VerdictDisplay;
 use point::Level;
+use runs::Audit;
+use runs::Outcome;
 use std::fmt;
 
 #[derive(Clone, Copy)]
@@ -18,12 +20,25 @@ pub enum Reply {
     Undecided,
     Decided(Verdict),
     Closed(Verdict, usize),
+    // what the calls since the orders come to under each stop rule
+    Audited(Audit),
     // the bytes of the journal
     Dump,
     Refused(Question),
     // a use that the types of a verification keep from building
     Misuse,
     Syntax,
+}
+
+// The verdict of a run that has ended.
+fn state_of(outcome: Outcome) -> &'static str {
+    match outcome.certificate {
+        Ok(certified) => match certified.verdict {
+            Verdict::Fit => "fit",
+            Verdict::Unfit => "unfit",
+        },
+        Err(_) => "going",
+    }
 }
 
 pub impl From<Question> for Reply as ReplyFromQuestion {
@@ -51,6 +66,13 @@ pub impl fmt::Display for Reply as ReplyDisplay {
             Reply::Undecided => f.write_str("ok undecided"),
             Reply::Decided(verdict) => write!(f, "ok {verdict}"),
             Reply::Closed(verdict, length) => write!(f, "ok {verdict} {length}"),
+            Reply::Audited(audit) => {
+                let first = audit.first_unfit.codes;
+                let first_verdict = state_of(audit.first_unfit);
+                let all = audit.all_points.codes;
+                let all_verdict = state_of(audit.all_points);
+                write!(f, "ok {first} {first_verdict} {all} {all_verdict}")
+            }
             Reply::Refused(question) => {
                 let number = question.number();
                 write!(f, "refused {number}")

@@ -1,14 +1,16 @@
 // A session: the stage, the two plans and the journal.
-use crate::command::Call;
 use crate::command::Command;
 use crate::command::Role;
 use crate::reply::Reply;
 use crate::stage::Stage;
+use crate::stage::all_passed;
 use console::ChosenPlan;
 use console::ChosenPlanning;
 use journal::Signal;
 use method::Plan;
 use method::ThreeStep;
+use runs::Call;
+use runs::audit;
 use std::alloc::Global;
 use std::io;
 use std::io::Write;
@@ -28,7 +30,20 @@ pub struct Session {
     short: ChosenPlan,
     journal: Vec<u8>,
     stage: Stage,
+    // the orders of the verification that runs, and the calls made since
+    ordered: Ordered,
+    calls: Vec<Call>,
 }
+
+// What the verification that runs was started with.
+struct Ordered {
+    points: i32,
+    control: i32,
+    main: ChosenPlan,
+    short: ChosenPlan,
+}
+
+impl Copy for Ordered {}
 
 fn numbers<P: Plan>(plan: &P) -> Reply {
     Reply::Numbers(
@@ -53,23 +68,71 @@ impl Session {
             short: ChosenPlan::Short(ThreeStep),
             journal: Vec::new(heap),
             stage: Stage::start(),
+            ordered: Ordered {
+                points: 0,
+                control: 0,
+                main: ChosenPlan::normal(),
+                short: ChosenPlan::Short(ThreeStep),
+            },
+            calls: Vec::new(heap),
         }
     }
 
     pub fn perform(&mut self, command: Command) -> Reply {
         match command {
             Command::Call(call) => self.call(call),
+            Command::Certificate(place) => self.certify(place),
+            Command::Audit => self.audit_calls(),
             Command::Dump => Reply::Dump,
             _ => self.prepare(command),
         }
     }
 
-    // A call of the verification that runs, if one does.
+    // A call of the verification that runs, if one does. It is kept for an audit.
     fn call(&mut self, call: Call) -> Reply {
         let stage = std::mem::replace(&mut self.stage, Stage::start());
         let (stage, reply) = stage.call(call, self.journal.as_mut_slice());
         self.stage = stage;
+        if self.calls.push(call).is_err() {
+            return Reply::Misuse;
+        }
         reply
+    }
+
+    fn certify(&mut self, place: usize) -> Reply {
+        let stage = std::mem::replace(&mut self.stage, Stage::start());
+        let (stage, reply) = stage.certify(self.journal.as_mut_slice(), place);
+        self.stage = stage;
+        reply
+    }
+
+    // What the calls since the orders come to under each stop rule, with a scratch buffer as long as the journal.
+    fn audit_calls(&self) -> Reply {
+        let Stage::Running(_) = &self.stage else {
+            return Reply::Misuse;
+        };
+        let (Some(first), Some(second)) = (all_passed(), all_passed()) else {
+            return Reply::Misuse;
+        };
+        let Ok(mut scratch) = vec![in self.heap; 0u8; self.journal.len()] else {
+            return Reply::Misuse;
+        };
+        let ordered = self.ordered;
+        let audited = audit(
+            first,
+            second,
+            ordered.points,
+            ordered.control,
+            ordered.main,
+            ordered.short,
+            self.calls.as_slice(),
+            scratch.as_mut_slice(),
+            0,
+        );
+        match audited {
+            Ok(audited) => Reply::Audited(audited),
+            Err(question) => Reply::Refused(question),
+        }
     }
 
     // The commands around a verification.
@@ -138,6 +201,13 @@ impl Session {
         match std::mem::replace(&mut self.stage, Stage::start()) {
             Stage::Ready(ready) => {
                 self.stage = Stage::Running(ready.start(orders, self.main, self.short));
+                self.ordered = Ordered {
+                    points,
+                    control,
+                    main: self.main,
+                    short: self.short,
+                };
+                self.calls.clear();
                 Reply::Done
             }
             stage => {

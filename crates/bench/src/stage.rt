@@ -1,11 +1,11 @@
 // The stage that a session is at.
-use crate::command::Call;
 use crate::reply::Reply;
 use console::ChosenPlan;
 use console::ChosenPlanning;
 use journal::Signal;
 use method::Question;
 use method::Verdict;
+use runs::Call;
 use verification::Check;
 use verification::Inspection;
 use verification::Insulation;
@@ -60,6 +60,37 @@ impl Stage {
             stage => (stage, Reply::Misuse),
         }
     }
+
+    // The certificate spends the verification, and the manual stage is at its start again.
+    pub fn certify(self, journal: &mut [u8], place: usize) -> (Stage, Reply) {
+        match self {
+            Stage::Running(running) => match running.certify(journal, place) {
+                Ok(certified) => (
+                    Stage::start(),
+                    Reply::Closed(certified.verdict, certified.length),
+                ),
+                Err(back) => {
+                    let (question, running) = back;
+                    (Stage::Running(running), Reply::Refused(question))
+                }
+            },
+            stage => (stage, Reply::Misuse),
+        }
+    }
+}
+
+// The manual stage with its three signals passed, for a verification that is run anew.
+pub fn all_passed() -> Option<Ready> {
+    let Ok(trial) = Inspection::begin().report(Check::Passed) else {
+        return None;
+    };
+    let Ok(insulation) = trial.report(Check::Passed) else {
+        return None;
+    };
+    match insulation.report(Check::Passed) {
+        Ok(ready) => Some(ready),
+        Err(_) => None,
+    }
 }
 
 fn decision(answer: Result<Option<Verdict>, Question>) -> Reply {
@@ -72,12 +103,15 @@ fn decision(answer: Result<Option<Verdict>, Question>) -> Reply {
 
 fn answer(running: &mut Running, call: Call, journal: &mut [u8]) -> Reply {
     match call {
-        Call::Open(signal, meter, reference, agreement) => {
-            match running.open(signal, meter, reference, agreement) {
-                Ok(()) => Reply::Done,
-                Err(question) => Reply::Refused(question),
-            }
-        }
+        Call::Open {
+            signal,
+            meter,
+            reference,
+            agreement,
+        } => match running.open(signal, meter, reference, agreement) {
+            Ok(()) => Reply::Done,
+            Err(question) => Reply::Refused(question),
+        },
         Call::Level => match running.level() {
             Ok(level) => Reply::Level(level),
             Err(question) => Reply::Refused(question),
