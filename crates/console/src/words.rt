@@ -73,6 +73,7 @@ impl<'a> Words<'a> {
     pub fn rest(&self) -> &'a [u8]
         ensures { λ r. ⌜ now r ≡ now (now (self .entry) .rest) ⌝ }
     {
-        self.rest
+        let behind = self.rest;
+        behind
     }
 }
