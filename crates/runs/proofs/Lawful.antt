@@ -2,6 +2,8 @@
 use Rattle.control.proofs.SmallerErrors.{steady}
 use Rattle.method.specs.Meaning.{Meaning, Ranged}
 use Rattle.runs.proofs.Counting.{counts, takes-few, takes-legal}
+use Rattle.runs.proofs.Closing.{closed-as-judged, points-counted}
+use Rattle.runs.proofs.Hearing.{judged-by-codes, opened-once}
 use Rattle.runs.proofs.Stopping.{takes-no-more, verdicts-agree}
 use Rattle.runs.specs.Laws.{Laws}
 
@@ -14,4 +16,8 @@ laws m s rm rs = record {
   steady-short = steady s;
   verdicts-agree = verdicts-agree m s;
   takes-no-more = takes-no-more m s;
+  opened-once = opened-once m s;
+  judged-by-codes = judged-by-codes m s rm rs;
+  closed-as-judged = closed-as-judged m s;
+  points-counted = points-counted m s;
 }

@@ -2,5 +2,9 @@ mod Steps
 mod CallByCall
 mod Counting
 mod Stopping
+mod Attempting
+mod Judging
+mod Hearing
+mod Closing
 mod Lawful
 mod Sparings

@@ -1,4 +1,5 @@
 pub mod Answers
 pub mod Runs
+pub mod Judged
 pub mod Laws
 pub mod Audits
