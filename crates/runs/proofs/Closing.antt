@@ -12,7 +12,7 @@ use Rattle.std.specs.declared.option.Option.{Option}
 use Rattle.std.specs.declared.option.Option.the-variants.{Some, None}
 use Rattle.std.specs.declared.result.Result.{Result}
 use Rattle.std.specs.declared.result.Result.the-variants.{Ok, Err}
-use Rattle.method.specs.Meaning.{Meaning}
+use Rattle.method.specs.Meaning.{Meaning, Ranged}
 use Rattle.method.specs.declared.question.Question.{Question}
 use Rattle.method.specs.declared.question.Question.the-variants.{CodeLegal, NotEnded}
 use Rattle.method.specs.declared.verdict.Verdict.{Verdict}
@@ -23,6 +23,7 @@ use Rattle.point.specs.declared.phase.Outcome.{Outcome}
 use Rattle.point.specs.declared.phase.Phase.{Phase}
 use Rattle.point.specs.declared.phase.Phase.the-variants.{Waiting, Settling, Observing, Decided}
 use Rattle.point.specs.declared.setting.Setting.{Setting}
+use Rattle.runs.proofs.Hearing.{judged-by-codes}
 use Rattle.runs.specs.Answers.{closes, one-unfit, points-closed, points-unfit, verdict-closed, verdict-told}
 use Rattle.runs.specs.Laws.{Closed-as-judged, Points-counted}
 use Rattle.runs.specs.Runs.{answer-to, answers-to, came, step}
@@ -129,7 +130,9 @@ close-tells p place len (Settling _) e = never e
 close-tells p place len (Observing _) e = never e
 close-tells p place len (Decided o) e = closed-by-tells p o _ e
 
-pub closed-as-judged : (m s : Meaning) → Closed-as-judged m s
-closed-as-judged m s d len cs place =
-    let p = came m s d len fresh cs in
-    cond-both (ended d p) (refused p NotEnded) (closed-at p place len (p .phase)) (Tells (p .phase)) (λ _. never) (λ _. close-tells p place len (p .phase))
+close-told : (m s : Meaning) (d : Declared) (len : ℕ) (p : Progress) (place : ℕ) → closes (answer-to m s d len p (Close place)) ≡ true → verdict-told (answer-to m s d len p (Close place)) ≡ reached (p .phase)
+close-told m s d len p place = cond-both (ended d p) (refused p NotEnded) (closed-at p place len (p .phase)) (Tells (p .phase)) (λ _. never) (λ _. close-tells p place len (p .phase))
+
+pub closed-as-judged : (m s : Meaning) → Ranged m → Ranged s → Closed-as-judged m s
+closed-as-judged m s rm rs d len before a x r n during place e f g =
+    close-told m s d len _ place g ∙ ap reached (judged-by-codes m s rm rs d len before a x r n during e f)

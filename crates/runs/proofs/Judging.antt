@@ -168,7 +168,7 @@ module _ (m s : Meaning) (k : Control) (h : Carried) where
       let next : Bool → Phase = λ b. cond b (Observing (first-trial m s k h g (length (c ∷ before)))) (Settling (so-far g (c ∷ before))) in
       let parts : Bool → Parts = λ b. cond b (over (length (c ∷ before)) (codes-in cs)) (parted (g .agreement) (c ∷ before) cs) in
       let taken : heard-all m s k h (next (settles (g .agreement) (c ∷ before))) cs ≡ judged-parts m s k h g (parts (settles (g .agreement) (c ∷ before))) =
-        elim (settles (g .agreement) (c ∷ before)) as (λ b. heard-all m s k h (next b) cs ≡ judged-parts m s k h g (parts b)) [ true ↦ begun-so | false ↦ more ] in
+      elim (settles (g .agreement) (c ∷ before)) as (λ b. heard-all m s k h (next b) cs ≡ judged-parts m s k h g (parts b)) [ true ↦ begun-so | false ↦ more ] in
       elim (legal-code c) as (λ b. heard-all m s k h (cond b (settle-step m s k h (so-far g before) c) (Settling (so-far g before))) cs
       ≡ judged-parts m s k h g (cond b (parts (settles (g .agreement) (c ∷ before))) (parted (g .agreement) before cs)))
       [ true ↦ ap (λ (f : Phase). heard-all m s k h f cs) (settle-so g before c) ∙ taken | false ↦ same ]

@@ -18,6 +18,6 @@ laws m s rm rs = record {
   takes-no-more = takes-no-more m s;
   opened-once = opened-once m s;
   judged-by-codes = judged-by-codes m s rm rs;
-  closed-as-judged = closed-as-judged m s;
+  closed-as-judged = closed-as-judged m s rm rs;
   points-counted = points-counted m s;
 }

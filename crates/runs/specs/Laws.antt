@@ -91,12 +91,15 @@ Judged-by-codes m s =
     → came m s d len (step m s d len (came m s d len fresh before) (Open signal meter reference agreement)) during .phase
     ≡ judged m s (d .control) (came m s d len fresh before .carried) (as-given signal meter reference agreement) during
 
--- A closing answers the verdict of the point as it was judged.
+-- Closed, it has the verdict that the method gives it by those calls.
 abbrev pub Closed-as-judged : Meaning → Meaning → Type 0
 Closed-as-judged m s =
-    (d : Declared) (len : ℕ) (cs : List Call) (place : ℕ)
-    → closes (answer-to m s d len (came m s d len fresh cs) (Close place)) ≡ true
-    → verdict-told (answer-to m s d len (came m s d len fresh cs) (Close place)) ≡ reached (came m s d len fresh cs .phase)
+    (d : Declared) (len : ℕ) (before : List Call) (signal meter reference agreement : ℤ) (during : List Call) (place : ℕ)
+    → opens (answer-to m s d len (came m s d len fresh before) (Open signal meter reference agreement)) ≡ true
+    → none-closed (answers-to m s d len (step m s d len (came m s d len fresh before) (Open signal meter reference agreement)) during) ≡ true
+    → closes (answer-to m s d len (came m s d len (step m s d len (came m s d len fresh before) (Open signal meter reference agreement)) during) (Close place)) ≡ true
+    → verdict-told (answer-to m s d len (came m s d len (step m s d len (came m s d len fresh before) (Open signal meter reference agreement)) during) (Close place))
+    ≡ reached (judged m s (d .control) (came m s d len fresh before .carried) (as-given signal meter reference agreement) during)
 
 -- The certificate's points are those closed in the list, and its unfit points those closed unfit.
 abbrev pub Points-counted : Meaning → Meaning → Type 0
