@@ -130,7 +130,7 @@ pub counts : (m s : Meaning) → Counts m s
 counts m s d len cs = ap pos (total m s d len fresh cs ∙ zero-plus _)
 
 -- A point is open, and how far it can be.
-abbrev Small : Phase → Type 0
+abbrev pub Small : Phase → Type 0
 Small Waiting = ⊥
 Small (Settling u) = u .codes .count < 200
 Small (Observing a) = (a .settled ≤ 200) × (earlier (a .course) ≤ 48) × (a .tally .observations < 48)
@@ -143,7 +143,7 @@ small-few (Observing a) h = omega arith
 small-few (Decided o) h = h
 
 -- a phase in which the point has taken n codes
-abbrev With : ℕ → Phase → Type 0
+abbrev pub With : ℕ → Phase → Type 0
 With n f = Small f × (taken f ≡ n)
 
 first-small : (m s : Meaning) (h : Carried) (g : Setting) (settled : ℕ) (u : PlanUsed) → settled ≤ 200 → With settled (Observing (first-on m s h g settled u))
@@ -206,7 +206,7 @@ module _ (m s : Meaning) (rm : Ranged m) (rs : Ranged s) (k : Control) (h : Carr
 
 -- A call at an open point that does not close it: the point stays open, and has taken one code more exactly if one was accepted.
 module _ (m s : Meaning) (rm : Ranged m) (rs : Ranged s) (d : Declared) (len : ℕ) (p : Progress) (small : Small (p .phase)) where
-  abbrev Stays : ℕ → Progress → Type 0
+  abbrev pub Stays : ℕ → Progress → Type 0
   Stays n q = With (taken (p .phase) + n) (q .phase)
 
   itself : Stays 0 p
@@ -254,7 +254,7 @@ module _ (m s : Meaning) (rm : Ranged m) (rs : Ranged s) (d : Declared) (len : �
   close-stays place (Observing _) e = itself
   close-stays place (Decided o) e = closed-by-stays o _ e
 
-  stays : (c : Call) → closes (answer-to m s d len p c) ≡ false → Stays (cond (accepts-code (answer-to m s d len p c)) 1 0) (step m s d len p c)
+  pub stays : (c : Call) → closes (answer-to m s d len p c) ≡ false → Stays (cond (accepts-code (answer-to m s d len p c)) 1 0) (step m s d len p c)
   stays (Open a e r n) x = cond-both (ended d p) (refused p NotEnded) (opened-at p a e r n (p .phase)) (λ y. Stays 0 (y .after)) (λ _. itself) (λ _. open-stays a e r n (p .phase) small)
   stays Level x = itself
   stays (Code c) x = cond-both (ended d p) (refused p NotEnded) (coded-at m s d p c (p .phase)) Coded-stays (λ _. itself) (λ _. code-stays c (p .phase) refl small)
@@ -285,7 +285,7 @@ module _ (p : Progress) where
   begins-at a e r n (Observing _) x = never x
   begins-at a e r n (Decided _) x = never x
 
-  begins-point : (m s : Meaning) (d : Declared) (len : ℕ) (c : Call) → opens (answer-to m s d len p c) ≡ true → With 0 (step m s d len p c .phase)
+  pub begins-point : (m s : Meaning) (d : Declared) (len : ℕ) (c : Call) → opens (answer-to m s d len p c) ≡ true → With 0 (step m s d len p c .phase)
   begins-point m s d len (Open a e r n) x = cond-both (ended d p) (refused p NotEnded) (opened-at p a e r n (p .phase)) Begins (λ _. never) (λ _. begins-at a e r n (p .phase)) x
   begins-point m s d len Level x = never x
   begins-point m s d len (Code c) x = never x

@@ -3,6 +3,8 @@ use Rattle.control.proofs.SmallerErrors.{steady}
 use Rattle.method.specs.Meaning.{Meaning, Ranged}
 use Rattle.runs.proofs.Buffers.{any-buffer}
 use Rattle.runs.proofs.Counting.{counts, takes-few, takes-legal}
+use Rattle.runs.proofs.Closing.{closed-as-judged, points-counted}
+use Rattle.runs.proofs.Hearing.{judged-by-codes, opened-once}
 use Rattle.runs.proofs.Stopping.{takes-no-more, verdicts-agree}
 use Rattle.runs.specs.Laws.{Laws}
 
@@ -16,4 +18,8 @@ laws m s rm rs = record {
   verdicts-agree = verdicts-agree m s;
   takes-no-more = takes-no-more m s;
   any-buffer = any-buffer;
+  opened-once = opened-once m s;
+  judged-by-codes = judged-by-codes m s rm rs;
+  closed-as-judged = closed-as-judged m s rm rs;
+  points-counted = points-counted m s;
 }

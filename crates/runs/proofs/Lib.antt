@@ -3,5 +3,9 @@ mod CallByCall
 mod Counting
 mod Stopping
 mod Buffers
+mod Attempting
+mod Judging
+mod Hearing
+mod Closing
 mod Lawful
 mod Sparings
