@@ -5,6 +5,7 @@ use Rattle.runs.proofs.Buffers.{any-buffer}
 use Rattle.runs.proofs.Counting.{counts, takes-few, takes-legal}
 use Rattle.runs.proofs.Closing.{closed-as-judged, points-counted}
 use Rattle.runs.proofs.Hearing.{judged-by-codes, opened-once}
+use Rattle.runs.proofs.Journaling.{journal-reads-back}
 use Rattle.runs.proofs.Stopping.{takes-no-more, verdicts-agree}
 use Rattle.runs.specs.Laws.{Laws}
 
@@ -18,6 +19,7 @@ laws m s rm rs = record {
   verdicts-agree = verdicts-agree m s;
   takes-no-more = takes-no-more m s;
   any-buffer = any-buffer;
+  journal-reads-back = journal-reads-back m s rm rs;
   opened-once = opened-once m s;
   judged-by-codes = judged-by-codes m s rm rs;
   closed-as-judged = closed-as-judged m s rm rs;

@@ -2,6 +2,8 @@ mod Steps
 mod CallByCall
 mod Counting
 mod Stopping
+mod Fine
+mod Journaling
 mod Buffers
 mod Attempting
 mod Judging

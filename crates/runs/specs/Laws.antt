@@ -14,6 +14,7 @@ use Rattle.point.specs.Settings.{as-given}
 use Rattle.point.specs.declared.phase.Control.{Control}
 use Rattle.point.specs.declared.phase.Phase.{Phase}
 use Rattle.runs.specs.Answers.{accepts-code, closes, codes-accepted, none-closed, opens, points-closed, points-unfit, verdict-told}
+use Rattle.runs.specs.Journals.{Journal-reads-back}
 use Rattle.runs.specs.Judged.{judged}
 use Rattle.runs.specs.Runs.{answer-to, answers-to, came, step}
 use Rattle.runs.specs.declared.call.Call.{Call}
@@ -114,7 +115,7 @@ Points-counted m s =
     × (certificate-fields d (came m s d len fresh cs) .unfit ≡ pos (points-unfit (answers-to m s d len fresh cs)))
 
 -- The count is true; smaller errors never do worse, on either plan; the stop rules agree; a point is judged by its codes
--- alone; and all this whatever buffers are lent.
+-- alone; all this whatever buffers are lent; and a journal of points closed one behind another reads back as their records.
 pub record Laws (m s : Meaning) : Type 0 where
   pub counts : Counts m s
   pub takes-few : Takes-few m s
@@ -124,6 +125,7 @@ pub record Laws (m s : Meaning) : Type 0 where
   pub verdicts-agree : Verdicts-agree m s
   pub takes-no-more : Takes-no-more m s
   pub any-buffer : Any-buffer
+  pub journal-reads-back : Journal-reads-back m s
   pub opened-once : Opened-once m s
   pub judged-by-codes : Judged-by-codes m s
   pub closed-as-judged : Closed-as-judged m s

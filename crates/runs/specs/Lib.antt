@@ -4,3 +4,4 @@ pub mod Judged
 pub mod Examples
 pub mod Laws
 pub mod Audits
+pub mod Journals

@@ -1,2 +1,2 @@
-mod Legality
+pub mod Legality
 mod Closings
