@@ -150,7 +150,7 @@ first-small : (m s : Meaning) (h : Carried) (g : Setting) (settled : ℕ) (u : P
 first-small m s h g settled used.Main l = ((l, lit≤ tt, lit< tt), omega arith)
 first-small m s h g settled used.Short l = ((l, lit≤ tt, lit< tt), omega arith)
 
-unsettled : (b : Bool) (i : ℕ) → cond b (Some Agreement) (cond (leb 200 i) (Some LastCode) None) ≡ None → i < 200
+pub unsettled : (b : Bool) (i : ℕ) → cond b (Some Agreement) (cond (leb 200 i) (Some LastCode) None) ≡ None → i < 200
 unsettled b i e = grind (arith, tells)
 
 settle-small : (m s : Meaning) (k : Control) (h : Carried) (u : Unsettled) (c : ℤ) (r : Option SettledBy) → (r ≡ None → u .codes .count + 1 < 200) → u .codes .count < 200 →
@@ -159,7 +159,7 @@ settle-small m s k h u c None e l = (e refl, refl)
 settle-small m s k h u c (Some by) e l = first-small m s h (u .setting) (u .codes .count + 1) (begins k h) (omega arith)
 
 -- An attempt that goes on has not come to the cut.
-early : (p : Meaning) → Ranged p → (i x : ℕ) (ok : Bool) → verdict-at p i x ok ≡ None → i < 48
+pub early : (p : Meaning) → Ranged p → (i x : ℕ) (ok : Bool) → verdict-at p i x ok ≡ None → i < 48
 early p r i x ok e = grind (arith, tells, r .cut-high)
 
 -- the end of an attempt
@@ -189,7 +189,7 @@ module _ (m : Meaning) (b : Trial) (l : b .settled ≤ 200) (j : earlier (b .cou
   goes-small k dominance None e = ((l, j, e refl), refl)
   goes-small k dominance (Some v) e = end-small k dominance (b .course) v refl
 
-ranged-of : (m s : Meaning) → Ranged m → Ranged s → (c : Course) → Ranged (plan-of m s c)
+pub ranged-of : (m s : Meaning) → Ranged m → Ranged s → (c : Course) → Ranged (plan-of m s c)
 ranged-of m s rm rs (Main b) = rm
 ranged-of m s rm rs Short = rs
 

@@ -1,14 +1,13 @@
 -- An open point's numbers are such that its record can be written, whatever calls led there.
 use Prim.Native.Nat.{ℕ, _+_, _-_, _*_, _≤_, _<_}
 use mathlib.Core.Bool.{Bool, true, false, cond}
-use mathlib.Core.List.{List, [], _∷_}
-use mathlib.Core.Path.{_≡_, refl, sym, ap, subst, _∙_}
+use mathlib.Core.Path.{_≡_, refl}
 use native.Mathlib.Omega.{arith}
-use lib.Dec.{leb, lit<, lit≤}
-use lib.IntN.{ℤ, pos, negsuc, natAbs, _+ℤ_}
+use lib.Dec.{lit<, lit≤}
+use lib.IntN.{ℤ, natAbs, _+ℤ_}
 use Rattle.std.proofs.shelf.Bits.{mul-le}
 use Rattle.std.proofs.shelf.Signed.{ints}
-use Rattle.std.proofs.shelf.Tests.{cond-both, leb-false}
+use Rattle.std.proofs.shelf.Tests.{cond-both}
 use Rattle.std.proofs.shelf.Ways.{tells}
 use Rattle.std.specs.declared.option.Option.{Option}
 use Rattle.std.specs.declared.option.Option.the-variants.{Some, None}
@@ -19,19 +18,18 @@ use Rattle.method.specs.declared.question.Question.{Question}
 use Rattle.method.specs.declared.question.Question.the-variants.{CodeLegal, NotEnded}
 use Rattle.method.specs.declared.verdict.Verdict.{Verdict}
 use Rattle.method.specs.declared.verdict.Verdict.the-variants.{Fit, Unfit}
-use Rattle.control.specs.Attempts.{Sound, added, none-yet, tally-after, verdict-at}
+use Rattle.control.specs.Attempts.{Sound, added}
 use Rattle.control.specs.Errors.{counted}
 use Rattle.control.specs.Settlings.{settled-by}
-use Rattle.control.specs.Tolerances.{Permits, coefficient, in-tolerance, tolerance-under}
+use Rattle.control.specs.Tolerances.{Permits, coefficient, in-tolerance}
 use Rattle.control.specs.declared.codes.SettledBy.{SettledBy}
-use Rattle.control.specs.declared.codes.SettledBy.the-variants.{Agreement, LastCode}
 use Rattle.control.specs.declared.distribution.Distribution.{Distribution}
 use Rattle.control.specs.declared.distribution.Distribution.the-variants.{Trapezoid, Uniform}
 use Rattle.control.specs.declared.tally.Tally.{Tally}
 use Rattle.point.specs.Bounds.{Set, Within, earlier}
 use Rattle.point.specs.Ends.{attempt-end, main-full}
 use Rattle.point.specs.Levels.{legal-code}
-use Rattle.point.specs.Phases.{belated, coded, goes-on, opened, reached, settled-to}
+use Rattle.point.specs.Phases.{coded, goes-on, reached, settled-to}
 use Rattle.point.specs.Settings.{as-given, setting-refusal}
 use Rattle.point.specs.Trials.{begins, begun, coming-error, distribution, first-on, noted, noted-verdict, plan-of}
 use Rattle.point.specs.declared.phase.Before.{Before}
@@ -49,10 +47,11 @@ use Rattle.point.specs.declared.phase.PlanUsed.the-variants as used
 use Rattle.point.specs.declared.phase.Trial.{Trial}
 use Rattle.point.specs.declared.phase.Unsettled.{Unsettled}
 use Rattle.point.specs.declared.setting.Setting.{Setting}
-use Rattle.runs.specs.Runs.{came, step}
+use Rattle.runs.proofs.Counting.{early, ranged-of, unsettled}
+use Rattle.runs.specs.Runs.{step}
 use Rattle.runs.specs.declared.call.Call.{Call}
 use Rattle.runs.specs.declared.call.Call.the-variants.{Open, Level, Code, Late, Close}
-use Rattle.verification.specs.Calls.{Reply, closed-at, closed-by, coded-at, coded-to, done, late-at, one-more, opened-at, opened-with, refused}
+use Rattle.verification.specs.Calls.{closed-at, closed-by, coded-at, coded-to, done, late-at, one-more, opened-at, opened-with, refused}
 use Rattle.verification.specs.Ordering.{ended}
 use Rattle.verification.specs.declared.declared.Declared.{Declared}
 use Rattle.verification.specs.declared.progress.Progress.{Progress}
@@ -101,15 +100,9 @@ first-fine : (m s : Meaning) → Ranged m → Ranged s → (h : Carried) (g : Se
 first-fine m s rm rs h g settled used.Main x l = begun-fine m rm (h .dominance) g settled (Main Nothing) x l (lit≤ tt)
 first-fine m s rm rs h g settled used.Short x l = begun-fine s rs (h .dominance) g settled Short x l (lit≤ tt)
 
-unsettled : (b : Bool) (i : ℕ) → cond b (Some Agreement) (cond (leb 200 i) (Some LastCode) None) ≡ None → i < 200
-unsettled b i e = grind (arith, tells)
-
 settle-fine : (m s : Meaning) → Ranged m → Ranged s → (k : Control) (h : Carried) (u : Unsettled) (c : ℤ) (r : Option SettledBy) → (r ≡ None → u .codes .count + 1 < 200) → Fine (Settling u) → Fine (settled-to m s k h u c r)
 settle-fine m s rm rs k h u c None e x = (x .0, e refl)
 settle-fine m s rm rs k h u c (Some by) e x = first-fine m s rm rs h (u .setting) (u .codes .count + 1) (begins k h) (x .0) (omega (arith, x .1))
-
-early : (p : Meaning) → Ranged p → (i x : ℕ) (ok : Bool) → verdict-at p i x ok ≡ None → i < 48
-early p r i x ok e = grind (arith, tells, r .cut-high)
 
 -- the end of an attempt
 module _ (m : Meaning) (rm : Ranged m) (b : Trial) (w : Within b) (some : 1 ≤ b .tally .observations) where
@@ -134,10 +127,6 @@ module _ (m : Meaning) (rm : Ranged m) (b : Trial) (w : Within b) (some : 1 ≤ 
   goes-fine : (k : Control) (dominance : Bool) (v : Option Verdict) → (v ≡ None → b .tally .observations < 48) → Fine (goes-on m k dominance b v)
   goes-fine k dominance None e = (w, e refl)
   goes-fine k dominance (Some v) e = end-fine k dominance (b .course) v
-
-ranged-of : (m s : Meaning) → Ranged m → Ranged s → (c : Course) → Ranged (plan-of m s c)
-ranged-of m s rm rs (Main b) = rm
-ranged-of m s rm rs Short = rs
 
 module _ (m s : Meaning) (rm : Ranged m) (rs : Ranged s) (k : Control) (h : Carried) where
   settling-fine : (u : Unsettled) (c : ℤ) → Fine (Settling u) → Fine (coded m s k h (Settling u) c)

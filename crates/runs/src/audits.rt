@@ -4,7 +4,7 @@ ghost use Rattle.runs.specs.Audits.{Sparing, audited, audited-bytes};
 ghost use Rattle.runs.specs.Laws.{Laws};
 ghost use Rattle.std.specs.Results.{isOk};
 ghost use Rattle.std.specs.Vec.{made};
-ghost use Rattle.verification.specs.Ordering.{orders-refusal};
+ghost use Rattle.verification.specs.Ordering.{as-declared, orders-refusal};
 ghost use lib.IntN.{pos};
 ghost use lib.ListN.{length};
 ghost use mathlib.Core.Bool.{cond};
@@ -17,6 +17,21 @@ use method::Plan;
 use method::Question;
 use verification::Orders;
 use verification::Ready;
+
+// The orders of an audit: alike but for the stop rule.
+fn both_orders(points: i32, control: i32) -> Result<(Orders, Orders), Question>
+    ensures refuses { λ r. ⌜ refused-by r ≡ orders-refusal points control (pos 1) ⌝ }
+    ensures makes { λ r. ⌜ made r (λ o. (o .0 .declared ≡ as-declared points control (pos 1)) × (o .1 .declared ≡ as-declared points control (pos 2))) ⌝ }
+{
+    let first = match Orders::new(points, control, 1) {
+        Ok(orders) => orders,
+        Err(question) => return Err(question),
+    };
+    match Orders::new(points, control, 2) {
+        Ok(orders) => Ok((first, orders)),
+        Err(question) => Err(question),
+    }
+}
 
 // What one list comes to under each stop rule, on two new verifications that are alike but for it: what ending at the
 // first unfit point would have saved. The scratch buffer is lent to one run and then to the other.
@@ -37,11 +52,7 @@ pub fn audit<M: Plan, S: Plan>(
     ensures sparing { λ r. ⌜ made r Sparing ⌝ }
     ensures laws { λ r. ⌜ Laws (M·Plan .meaning main) (S·Plan .meaning short) ⌝ }
 {
-    let stopping = match Orders::new(points, control, 1) {
-        Ok(orders) => orders,
-        Err(question) => return Err(question),
-    };
-    let going = match Orders::new(points, control, 2) {
+    let (stopping, going) = match both_orders(points, control) {
         Ok(orders) => orders,
         Err(question) => return Err(question),
     };

@@ -37,8 +37,8 @@ returns g c =
     let two = c .run-all-points .ensures in
     let points = toZ-ofZ w32 (c .args .points) (c .fits .points) in
     let control = toZ-ofZ w32 (c .args .control) (c .fits .control) in
-    let first = c .in-Ok .ensures tt .makes ∙ ap (λ (z : ℤ). as-declared z (toZ w32 (ofZ w32 (c .args .control))) (pos 1)) points ∙ ap (λ (z : ℤ). as-declared (c .args .points) z (pos 1)) control in
-    let second = c .in-Ok-new .ensures tt .makes ∙ ap (λ (z : ℤ). as-declared z (toZ w32 (ofZ w32 (c .args .control))) (pos 2)) points ∙ ap (λ (z : ℤ). as-declared (c .args .points) z (pos 2)) control in
+    let first = c .in-Ok .ensures tt .makes .0 ∙ ap (λ (z : ℤ). as-declared z (toZ w32 (ofZ w32 (c .args .control))) (pos 1)) points ∙ ap (λ (z : ℤ). as-declared (c .args .points) z (pos 1)) control in
+    let second = c .in-Ok .ensures tt .makes .1 ∙ ap (λ (z : ℤ). as-declared z (toZ w32 (ofZ w32 (c .args .control))) (pos 2)) points ∙ ap (λ (z : ℤ). as-declared (c .args .points) z (pos 2)) control in
     let asked = c .in-Ok .ensures tt .refuses ∙ ap (λ (z : ℤ). orders-refusal z (toZ w32 (ofZ w32 (c .args .control))) (pos 1)) points ∙ ap (λ (z : ℤ). orders-refusal (c .args .points) z (pos 1)) control in
     let is = both (one .outcome ∙ outcome-alike m s place cs first refl) (two .outcome ∙ outcome-alike m s place cs second (c .run-first-unfit .kept .journal)) in
     record {
