@@ -1,4 +1,5 @@
 // The commands of a line.
+use crate::record_text::parse_record;
 use crate::reply::Reply;
 use console::ChosenPlan;
 use console::PlanError;
@@ -6,6 +7,7 @@ use console::Words;
 use console::parse_number;
 use console::parse_plan;
 use console::same_word;
+use journal::Record;
 use journal::Signal;
 use runs::Call;
 use verification::Check;
@@ -30,6 +32,11 @@ pub enum Command {
     Certificate(usize),
     Audit,
     Dump,
+    // the bytes from one place up to another, or to the end
+    Read(usize, Option<usize>),
+    // the third word of the line is bytes in hexadecimal, for a place
+    Bytes(usize),
+    Write(usize, Record),
 }
 
 impl Copy for Command {}
@@ -85,10 +92,38 @@ fn parse_rare(verb: &[u8], words: &mut Words) -> Result<Command, Reply> {
         Ok(Command::Certificate(next_place(words)?))
     } else if same_word(verb, b"audit") {
         Ok(Command::Audit)
-    } else if same_word(verb, b"dump") {
+    } else {
+        parse_bytes(verb, words)
+    }
+}
+
+// The commands that look into the journal.
+fn parse_bytes(verb: &[u8], words: &mut Words) -> Result<Command, Reply> {
+    if same_word(verb, b"dump") {
         Ok(Command::Dump)
+    } else if same_word(verb, b"read") {
+        parse_read(words)
+    } else if same_word(verb, b"bytes") {
+        let place = next_place(words)?;
+        next_word(words)?;
+        Ok(Command::Bytes(place))
+    } else if same_word(verb, b"write") {
+        let place = next_place(words)?;
+        let kind = next_number(words)?;
+        Ok(Command::Write(place, parse_record(kind, words)?))
     } else {
         Err(Reply::Syntax)
+    }
+}
+
+fn parse_read(words: &mut Words) -> Result<Command, Reply> {
+    let place = next_place(words)?;
+    let Some(word) = words.next() else {
+        return Ok(Command::Read(place, None));
+    };
+    match parse_number(word) {
+        Some(end) => Ok(Command::Read(place, Some(as_place(end)))),
+        None => Err(Reply::Syntax),
     }
 }
 
@@ -107,13 +142,16 @@ fn next_number(words: &mut Words) -> Result<i32, Reply> {
 }
 
 // A place; one that is negative lies in no buffer, as one that is too large.
-fn next_place(words: &mut Words) -> Result<usize, Reply> {
-    let number = next_number(words)?;
+fn as_place(number: i32) -> usize {
     if number < 0 {
-        Ok(usize::MAX)
+        usize::MAX
     } else {
-        Ok(number as usize)
+        number as usize
     }
+}
+
+fn next_place(words: &mut Words) -> Result<usize, Reply> {
+    Ok(as_place(next_number(words)?))
 }
 
 fn parse_open(words: &mut Words) -> Result<Command, Reply> {

@@ -1,5 +1,6 @@
 // Drives a verification by commands from standard input, one to a line, and answers each with a line.
 mod command;
+mod record_text;
 mod reply;
 mod session;
 mod stage;
@@ -18,7 +19,7 @@ use std::io::Write;
 // The answer to a line; blank lines and comments have none.
 fn answer(session: &mut Session, line: &[u8]) -> Option<Reply> {
     match parse_command(line) {
-        Ok(Some(command)) => Some(session.perform(command)),
+        Ok(Some(command)) => Some(session.perform(command, line)),
         Ok(None) => None,
         Err(reply) => Some(reply),
     }
@@ -27,6 +28,7 @@ fn answer(session: &mut Session, line: &[u8]) -> Option<Reply> {
 fn print_answer(out: &mut impl Write, session: &Session, reply: Reply) -> io::Result<()> {
     match reply {
         Reply::Dump => session.dump(out),
+        Reply::Read(place, end) => session.read(out, place, end),
         _ => writeln!(out, "{reply}"),
     }
 }

@@ -24,6 +24,8 @@ pub enum Reply {
     Audited(Audit),
     // the bytes of the journal
     Dump,
+    // the records of the journal's bytes from one place up to another
+    Read(usize, usize),
     Refused(Question),
     // a use that the types of a verification keep from building
     Misuse,
@@ -50,7 +52,7 @@ pub impl From<Question> for Reply as ReplyFromQuestion {
 pub impl fmt::Display for Reply as ReplyDisplay {
     fn fmt<W: fmt::Write>(&self, f: &mut fmt::Formatter<W>) -> fmt::Result {
         match self {
-            Reply::Done | Reply::Dump => f.write_str("ok"),
+            Reply::Done | Reply::Dump | Reply::Read(_, _) => f.write_str("ok"),
             Reply::Notice(signal) => write!(f, "ok notice {signal}"),
             Reply::Length(length) => write!(f, "ok {length}"),
             Reply::Numbers(cut, number, margin, trapezoid, uniform) => {

@@ -1,12 +1,19 @@
 // A session: the stage, the two plans and the journal.
 use crate::command::Command;
 use crate::command::Role;
+use crate::record_text::print_item;
 use crate::reply::Reply;
 use crate::stage::Stage;
 use crate::stage::all_passed;
 use console::ChosenPlan;
 use console::ChosenPlanning;
+use console::Words;
+use journal::Fault;
+use journal::Layer;
+use journal::Reader;
+use journal::Record;
 use journal::Signal;
+use journal::write_record;
 use method::Plan;
 use method::ThreeStep;
 use runs::Call;
@@ -59,6 +66,73 @@ fn norms<P: Plan>(plan: &P, i: u32) -> Reply {
     Reply::Norms(plan.accept_number(i), plan.reject_number(i), plan.offset(i))
 }
 
+fn print_fault(out: &mut impl Write, fault: Fault) -> io::Result<()> {
+    let number = fault.question.number();
+    let ordinal = fault.place.ordinal;
+    let first = fault.place.first_byte;
+    let layer = match fault.layer {
+        Layer::Kind => "kind",
+        Layer::Bits => "bits",
+        Layer::Field => "field",
+    };
+    writeln!(out, " fault {number} {ordinal} {first} {layer}")
+}
+
+// A journal has at most as many records as bytes.
+fn print_records(out: &mut impl Write, journal: &[u8]) -> io::Result<()> {
+    let mut reader = Reader::new(journal);
+    for _ in 0..journal.len() {
+        match reader.next() {
+            Ok(Some(placed)) => print_item(out, placed)?,
+            Ok(None) => break,
+            Err(fault) => return print_fault(out, fault),
+        }
+    }
+    writeln!(out, " end")
+}
+
+fn digit(b: u8) -> Option<u8> {
+    match b {
+        b'0'..=b'9' => Some(b - b'0'),
+        b'a'..=b'f' => Some(b - b'a' + 10),
+        b'A'..=b'F' => Some(b - b'A' + 10),
+        _ => None,
+    }
+}
+
+// The third word of a line, or none of its bytes.
+fn third_word(line: &[u8]) -> &[u8] {
+    let mut words = Words::new(line);
+    words.next();
+    words.next();
+    match words.next() {
+        Some(word) => word,
+        None => &line[0..0],
+    }
+}
+
+// Whether a word is bytes in hexadecimal.
+fn is_hex(word: &[u8]) -> bool {
+    for b in word {
+        if digit(*b).is_none() {
+            return false;
+        }
+    }
+    word.len() % 2 == 0
+}
+
+// The bytes of a hexadecimal word, at a place, as far as they fit.
+fn overwrite(journal: &mut [u8], place: usize, hex: &[u8]) {
+    for i in 0..hex.len() / 2 {
+        let high = digit(hex[2 * i]).unwrap_or(0);
+        let low = digit(hex[2 * i + 1]).unwrap_or(0);
+        let at = place.saturating_add(i);
+        if at < journal.len() {
+            journal[at] = high.wrapping_mul(16).wrapping_add(low);
+        }
+    }
+}
+
 impl Session {
     // Normal control with three-step as the short plan, and a journal with no room.
     pub fn new(heap: Global) -> Session {
@@ -78,14 +152,60 @@ impl Session {
         }
     }
 
-    pub fn perform(&mut self, command: Command) -> Reply {
+    // Performs the command that a line was parsed as.
+    pub fn perform(&mut self, command: Command, line: &[u8]) -> Reply {
         match command {
             Command::Call(call) => self.call(call),
             Command::Certificate(place) => self.certify(place),
             Command::Audit => self.audit_calls(),
             Command::Dump => Reply::Dump,
+            Command::Read(place, end) => self.part(place, end),
+            Command::Bytes(place) => self.put_bytes(place, third_word(line)),
+            Command::Write(place, record) => self.put_record(place, record),
             _ => self.prepare(command),
         }
+    }
+
+    // The part of the journal that is to be read, if it lies within.
+    fn part(&self, place: usize, end: Option<usize>) -> Reply {
+        let end = match end {
+            Some(end) => end,
+            None => self.journal.len(),
+        };
+        if place <= end && end <= self.journal.len() {
+            Reply::Read(place, end)
+        } else {
+            Reply::Misuse
+        }
+    }
+
+    fn put_bytes(&mut self, place: usize, hex: &[u8]) -> Reply {
+        if !is_hex(hex) {
+            return Reply::Syntax;
+        }
+        let length = self.journal.len();
+        if place > length || length - place < hex.len() / 2 {
+            return Reply::Misuse;
+        }
+        overwrite(self.journal.as_mut_slice(), place, hex);
+        Reply::Done
+    }
+
+    fn put_record(&mut self, place: usize, record: Record) -> Reply {
+        match write_record(self.journal.as_mut_slice(), place, &record) {
+            Ok(length) => Reply::Length(length),
+            Err(question) => Reply::Refused(question),
+        }
+    }
+
+    // The records of a part of the journal, as a journal of their own, up to their end or the first fault.
+    pub fn read(&self, out: &mut impl Write, place: usize, end: usize) -> io::Result<()> {
+        write!(out, "ok")?;
+        let journal = self.journal.as_slice();
+        if place > end || end > journal.len() {
+            return writeln!(out, " end");
+        }
+        print_records(out, &journal[place..end])
     }
 
     // A call of the verification that runs, if one does. It is kept for an audit.
