@@ -1,5 +1,6 @@
 // Drives a verification by commands from standard input, one to a line, and answers each with a line.
 mod command;
+mod hex;
 mod record_text;
 mod reply;
 mod session;

@@ -3,10 +3,13 @@ use crate::reply::Reply;
 use console::Words;
 use console::parse_number;
 use journal::CertificateFields;
+use journal::Fault;
 use journal::FirstAttempt;
+use journal::Layer;
 use journal::NoticeFields;
 use journal::Placed;
 use journal::Quantity;
+use journal::Reader;
 use journal::Record;
 use journal::SequenceFields;
 use journal::Signal;
@@ -200,7 +203,7 @@ fn print_certificate(out: &mut impl Write, fields: CertificateFields) -> io::Res
 }
 
 // ORDINAL:FIRST:KIND:FIELDS
-pub fn print_item(out: &mut impl Write, placed: Placed) -> io::Result<()> {
+fn print_item(out: &mut impl Write, placed: Placed) -> io::Result<()> {
     let ordinal = placed.place.ordinal;
     let first = placed.place.first_byte;
     write!(out, " {ordinal}:{first}:")?;
@@ -217,4 +220,29 @@ pub fn print_item(out: &mut impl Write, placed: Placed) -> io::Result<()> {
             write!(out, "4:{failed}")
         }
     }
+}
+
+fn print_fault(out: &mut impl Write, fault: Fault) -> io::Result<()> {
+    let number = fault.question.number();
+    let ordinal = fault.place.ordinal;
+    let first = fault.place.first_byte;
+    let layer = match fault.layer {
+        Layer::Kind => "kind",
+        Layer::Bits => "bits",
+        Layer::Field => "field",
+    };
+    writeln!(out, " fault {number} {ordinal} {first} {layer}")
+}
+
+// The records of a journal, up to its end or the first fault. It has at most as many records as bytes.
+pub fn print_records(out: &mut impl Write, journal: &[u8]) -> io::Result<()> {
+    let mut reader = Reader::new(journal);
+    for _ in 0..journal.len() {
+        match reader.next() {
+            Ok(Some(placed)) => print_item(out, placed)?,
+            Ok(None) => break,
+            Err(fault) => return print_fault(out, fault),
+        }
+    }
+    writeln!(out, " end")
 }

@@ -1,16 +1,15 @@
 // A session: the stage, the two plans and the journal.
 use crate::command::Command;
 use crate::command::Role;
-use crate::record_text::print_item;
+use crate::hex::is_hex;
+use crate::hex::overwrite;
+use crate::record_text::print_records;
 use crate::reply::Reply;
 use crate::stage::Stage;
 use crate::stage::all_passed;
 use console::ChosenPlan;
 use console::ChosenPlanning;
 use console::Words;
-use journal::Fault;
-use journal::Layer;
-use journal::Reader;
 use journal::Record;
 use journal::Signal;
 use journal::write_record;
@@ -66,40 +65,6 @@ fn norms<P: Plan>(plan: &P, i: u32) -> Reply {
     Reply::Norms(plan.accept_number(i), plan.reject_number(i), plan.offset(i))
 }
 
-fn print_fault(out: &mut impl Write, fault: Fault) -> io::Result<()> {
-    let number = fault.question.number();
-    let ordinal = fault.place.ordinal;
-    let first = fault.place.first_byte;
-    let layer = match fault.layer {
-        Layer::Kind => "kind",
-        Layer::Bits => "bits",
-        Layer::Field => "field",
-    };
-    writeln!(out, " fault {number} {ordinal} {first} {layer}")
-}
-
-// A journal has at most as many records as bytes.
-fn print_records(out: &mut impl Write, journal: &[u8]) -> io::Result<()> {
-    let mut reader = Reader::new(journal);
-    for _ in 0..journal.len() {
-        match reader.next() {
-            Ok(Some(placed)) => print_item(out, placed)?,
-            Ok(None) => break,
-            Err(fault) => return print_fault(out, fault),
-        }
-    }
-    writeln!(out, " end")
-}
-
-fn digit(b: u8) -> Option<u8> {
-    match b {
-        b'0'..=b'9' => Some(b - b'0'),
-        b'a'..=b'f' => Some(b - b'a' + 10),
-        b'A'..=b'F' => Some(b - b'A' + 10),
-        _ => None,
-    }
-}
-
 // The third word of a line, or none of its bytes.
 fn third_word(line: &[u8]) -> &[u8] {
     let mut words = Words::new(line);
@@ -108,28 +73,6 @@ fn third_word(line: &[u8]) -> &[u8] {
     match words.next() {
         Some(word) => word,
         None => &line[0..0],
-    }
-}
-
-// Whether a word is bytes in hexadecimal.
-fn is_hex(word: &[u8]) -> bool {
-    for b in word {
-        if digit(*b).is_none() {
-            return false;
-        }
-    }
-    word.len() % 2 == 0
-}
-
-// The bytes of a hexadecimal word, at a place, as far as they fit.
-fn overwrite(journal: &mut [u8], place: usize, hex: &[u8]) {
-    for i in 0..hex.len() / 2 {
-        let high = digit(hex[2 * i]).unwrap_or(0);
-        let low = digit(hex[2 * i + 1]).unwrap_or(0);
-        let at = place.saturating_add(i);
-        if at < journal.len() {
-            journal[at] = high.wrapping_mul(16).wrapping_add(low);
-        }
     }
 }
 
