@@ -23,14 +23,9 @@ fn both_orders(points: i32, control: i32) -> Result<(Orders, Orders), Question>
     ensures refuses { λ r. ⌜ refused-by r ≡ orders-refusal points control (pos 1) ⌝ }
     ensures makes { λ r. ⌜ made r (λ o. (o .0 .declared ≡ as-declared points control (pos 1)) × (o .1 .declared ≡ as-declared points control (pos 2))) ⌝ }
 {
-    let first = match Orders::new(points, control, 1) {
-        Ok(orders) => orders,
-        Err(question) => return Err(question),
-    };
-    match Orders::new(points, control, 2) {
-        Ok(orders) => Ok((first, orders)),
-        Err(question) => Err(question),
-    }
+    let first_unfit = Orders::new(points, control, 1)?;
+    let all_points = Orders::new(points, control, 2)?;
+    Ok((first_unfit, all_points))
 }
 
 // What one list comes to under each stop rule, on two new verifications that are alike but for it: what ending at the
