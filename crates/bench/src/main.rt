@@ -1,4 +1,6 @@
 // Drives a verification by commands from standard input, one to a line, and answers each with a line.
+#![tactic(auto)]
+
 mod help;
 mod hex;
 mod lines;

@@ -1,5 +1,7 @@
 // Test equipment: the library as functions for C, so that it can be compared with an implementation in another language.
 // Its contracts are light: it is proved safe and ending, and what the calls answer is the contract of the crates below.
+#![tactic(auto)]
+
 mod plans;
 mod reading;
 mod running;

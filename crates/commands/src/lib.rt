@@ -1,4 +1,6 @@
 // The bench's commands: which line is which, and the text of each answer.
+#![tactic(auto)]
+
 mod command;
 mod grammar;
 mod line;

@@ -1,4 +1,6 @@
 // What the programs share: the words and numbers of a line, and the plans that can be chosen by them.
+#![tactic(auto)]
+
 mod chosen;
 mod number;
 mod plan_name;

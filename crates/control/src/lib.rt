@@ -1,4 +1,6 @@
 // What happens at one point: settling, tolerances, an attempt and its sequence, quantity control, dominance, and the laws over lists of errors.
+#![tactic(auto)]
+
 mod attempt;
 mod codes;
 mod distribution;

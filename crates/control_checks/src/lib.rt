@@ -1,4 +1,6 @@
 // Tests of the crates below at the edges of their ranges. Every expected value is worked by hand, in a comment beside it.
+#![tactic(auto)]
+
 #[cfg(test)]
 mod attempts;
 #[cfg(test)]

@@ -1,4 +1,6 @@
 // The journal: records packed bit by bit, one behind another in bytes that the caller lends.
+#![tactic(auto)]
+
 mod bits;
 mod certificate;
 mod codes;

@@ -1,7 +1,7 @@
 -- A truncation of a truncation is one truncation.
-use Rattle.std.proofs.Common.{◌≡◌, ℕ, ◌≤◌, Bool, true, false, cond, ◌&&◌, ℤ, nat_abs, sym, refl, subst, arith}
+use Rattle.std.proofs.Common.{◌≡◌, ℕ, ◌≤◌, ℤ, nat_abs, sym, refl, subst, arith}
 use Rattle.std.proofs.lemmas.Bool.Decides.{nat_tests}
-use Rattle.method.specs.Meaning.{Meaning, up_to, within}
+use Rattle.method.specs.Meaning.{Meaning, up_to}
 use Rattle.method.specs.Plans.{Alike, Holds, truncated}
 
 passes : {A : Type 0} (c b : ℕ) (nothing : A) (f : ℕ → A) → c ≤ b → (i : ℕ) → up_to c nothing f i ≡ up_to c nothing (up_to b nothing f) i

@@ -6,3 +6,4 @@ pub mod Plans
 pub mod Tables
 pub mod Ranges
 pub mod TableSteps
+pub mod TableRanges

@@ -1,4 +1,6 @@
 // The words that every other crate uses: what a refusal names, verdicts, the measures, and the plans of control.
+#![tactic(auto)]
+
 mod line;
 pub mod measures;
 mod plan;

@@ -2,7 +2,7 @@
 ghost use Rattle.std.specs.Prelude.{◌≡◌, ◌≤◌, true, length, take, pos, is_some, IfSome, IfOk};
 ghost use Rattle.method.specs.Refusals.{between, refused_by};
 ghost use Rattle.method.specs.Tables.{Limited, in_force, numbers_ranged, passed, rising, rows_ranged, rows_stand, table_refusal, tabled};
-ghost use Rattle.std.proofs.Common.{rules, arith};
+ghost use Rattle.method.specs.TableRanges.{table_ranged};
 
 use crate::measures::{
     COEFFICIENT_MAX, CUT_MAX, CUT_MIN, MARGIN_MAX, NO_ACCEPT, NO_OFFSET, NO_REJECT, PEAK_MAX,
@@ -151,7 +151,7 @@ impl Tabled {
 impl Plan for Tabled {
     ghost meaning = { λ t. tabled (take t.len t.rows) t.limits };
 
-    ghost ranged = { first_of (Prim.search rules, Prim.grind (arith, Self.row.coded.inj)) };
+    ghost ranged = { λ t. table_ranged (take t.len t.rows) t.limits t.ranged (t.cut_low, t.cut_high, t.cut_number_high, t.margin_high, t.trapezoid_high, t.uniform_high, t.peak_high) };
 
     fn cut(&self) -> u32 {
         self.limits.cut

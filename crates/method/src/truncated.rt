@@ -1,5 +1,5 @@
 // Any plan with a cut and a cut number of its own.
-ghost use Rattle.std.specs.Prelude.{◌≡◌, ◌≤◌, IfOk, unsigned_abs};
+ghost use Rattle.std.specs.Prelude.{◌≡◌, ◌≤◌, IfOk, unsigned_abs, ⊤};
 ghost use Rattle.method.specs.Lines.{line, numbers_of};
 ghost use Rattle.method.specs.Plans.{Alike, Holds, normal_control, strengthened_control, truncated};
 ghost use Rattle.method.specs.Refusals.{refused_by, truncation_refusal};
@@ -9,6 +9,7 @@ use crate::line::Line;
 use crate::measures::{NO_ACCEPT, NO_OFFSET, NO_REJECT};
 use crate::plan::{Plan, is_within};
 use crate::question::Question;
+use std::alloc::AllocError;
 
 pub struct Truncated<P: Plan> {
     plan: P,
@@ -17,6 +18,16 @@ pub struct Truncated<P: Plan> {
     ghost low: { 2 ≤ cut },
     ghost high: { cut ≤ 48 },
     ghost few: { cut_number ≤ cut },
+}
+
+impl<P: Plan> Clone for Truncated<P> {
+    ghost is_clone = { λ x y. y ≡ x };
+
+    ghost is_infallible = { λ _. ⊤ };
+
+    fn clone(&self) -> Result<Truncated<P>, AllocError> {
+        Ok(*self)
+    }
 }
 
 impl<P: Plan> Copy for Truncated<P> {}

@@ -1,4 +1,6 @@
 // Tests of the plans of control and of what their constructors refuse.
+#![tactic(auto)]
+
 #[cfg(test)]
 mod lines;
 #[cfg(test)]

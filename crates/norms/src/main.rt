@@ -1,4 +1,6 @@
 // Prints the card of norms of each plan that is typed, one plan to a line, or what a list of errors behind it comes to.
+#![tactic(auto)]
+
 ghost use Rattle.std.specs.Prelude.{◌≤◌, length};
 
 mod card;

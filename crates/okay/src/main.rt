@@ -1,4 +1,6 @@
 // Answers every line with ok: what the speed of the bench is measured against.
+#![tactic(auto)]
+
 use std::io;
 use std::io::{BufRead, BufReader, BufWriter, Write};
 

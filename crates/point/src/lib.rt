@@ -1,4 +1,6 @@
 // One point put together: its settling, its attempts in order, and how it is decided, over any two plans.
+#![tactic(auto)]
+
 mod ends;
 mod levels;
 mod phase;

@@ -1,4 +1,6 @@
 // Prints the protocol of a journal: a file of bytes, or hexadecimal from standard input.
+#![tactic(auto)]
+
 mod point_text;
 mod result_text;
 

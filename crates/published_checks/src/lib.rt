@@ -1,4 +1,6 @@
 // Tests against the worked examples that MI 860-85 prints in its appendix 10, run through the calls of a verification.
+#![tactic(auto)]
+
 #[cfg(test)]
 mod drive;
 #[cfg(test)]

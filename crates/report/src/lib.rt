@@ -1,4 +1,6 @@
 // What a verifier is told of a journal's records: the estimates, their decimals, how a point settled, and the result.
+#![tactic(auto)]
+
 mod decimal;
 mod dispersion;
 mod estimates;

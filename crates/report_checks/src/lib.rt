@@ -1,4 +1,6 @@
 // Examples of what a protocol tells, worked by hand.
+#![tactic(auto)]
+
 #[cfg(test)]
 mod estimates;
 #[cfg(test)]

@@ -1,4 +1,6 @@
 // Whole runs: any list of calls on a new verification, and the laws that hold of every such run.
+#![tactic(auto)]
+
 mod answer;
 mod audits;
 mod call;

@@ -1,4 +1,6 @@
 // A verification from its manual signals to its certificate, over any main and any short plan.
+#![tactic(auto)]
+
 mod calls;
 mod certificates;
 mod certified;

@@ -1,4 +1,6 @@
 // Tests of whole points and of every call's questions, on normal control with three-step as the short plan.
+#![tactic(auto)]
+
 #[cfg(test)]
 mod drive;
 #[cfg(test)]
