@@ -62,7 +62,7 @@ impl Attempt {
 
     // One observation more.
     pub fn observe<P: Plan>(self, plan: &P, error: i32) -> Progress
-        ensures { elim result [ Progress.GoesOn a ↦ Observed (meaning plan.now) self.tolerance.width self.tally error a.tally None × (a.tolerance ≡ self.tolerance) | Progress.Ended f ↦ Observed (meaning plan.now) self.tolerance.width self.tally error f.tally (Some f.verdict) × (f.tolerance ≡ self.tolerance) ] }
+        ensures { elim result [ Progress.GoesOn a ↦ Observed (P.Plan.meaning plan.now) self.tolerance.width self.tally error a.tally None × (a.tolerance ≡ self.tolerance) | Progress.Ended f ↦ Observed (P.Plan.meaning plan.now) self.tolerance.width self.tally error f.tally (Some f.verdict) × (f.tolerance ≡ self.tolerance) ] }
     {
         let Attempt { tally, tolerance } = self;
         let (tally, verdict) = observed(plan, tolerance.width, tally, error);

@@ -41,7 +41,7 @@ fn verdict_if(fit: bool) -> Verdict
 
 // At the cut, the verdict by the cut number.
 fn cut_verdict_of<P: Plan>(plan: &P, n: u32, x: u32) -> Option<Verdict>
-    ensures is { result ≡ cut_verdict (meaning plan.now) n x }
+    ensures is { result ≡ cut_verdict (P.Plan.meaning plan.now) n x }
     ensures room { result ≡ None → n < 48 }
 {
     if plan.cut() <= n {
@@ -54,7 +54,7 @@ fn cut_verdict_of<P: Plan>(plan: &P, n: u32, x: u32) -> Option<Verdict>
 // What the plan says at observation n in tolerance, with x out.
 fn verdict_in_tolerance<P: Plan>(plan: &P, n: u32, x: u32) -> Option<Verdict>
     requires { x ≤ 48 }
-    ensures is { result ≡ verdict_in (meaning plan.now) n x }
+    ensures is { result ≡ verdict_in (P.Plan.meaning plan.now) n x }
     ensures room { result ≡ None → n < 48 }
 {
     if x as i32 <= plan.accept_number(n) {
@@ -65,7 +65,7 @@ fn verdict_in_tolerance<P: Plan>(plan: &P, n: u32, x: u32) -> Option<Verdict>
 
 // What the plan says at observation n out of tolerance, with x out.
 fn verdict_out_of_tolerance<P: Plan>(plan: &P, n: u32, x: u32) -> Option<Verdict>
-    ensures is { result ≡ verdict_out (meaning plan.now) n x }
+    ensures is { result ≡ verdict_out (P.Plan.meaning plan.now) n x }
     ensures room { result ≡ None → n < 48 }
 {
     if x >= plan.reject_number(n) {
@@ -78,8 +78,8 @@ fn verdict_out_of_tolerance<P: Plan>(plan: &P, n: u32, x: u32) -> Option<Verdict
 pub fn observed<P: Plan>(plan: &P, width: u32, tally: Tally, error: i32) -> (Tally, Option<Verdict>)
     requires sound { Sound tally }
     requires room { tally.observations < 48 }
-    ensures tally { result.0 ≡ tally_after (meaning plan.now) width tally error }
-    ensures verdict { result.1 ≡ verdict_of (meaning plan.now) width tally error }
+    ensures tally { result.0 ≡ tally_after (P.Plan.meaning plan.now) width tally error }
+    ensures verdict { result.1 ≡ verdict_of (P.Plan.meaning plan.now) width tally error }
     ensures sound { Sound result.0 }
     ensures count { result.0.observations ≡ tally.observations + 1 }
     ensures room { result.1 ≡ None → result.0.observations < 48 }

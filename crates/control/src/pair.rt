@@ -23,8 +23,8 @@ fn end_both<P: Plan>(
     second: Permitted,
     smaller: &[i32],
 ) -> Endings
-    ensures first { result.first ≡ sequence_under (meaning plan.now) distribution first.meter first.reference errors.now }
-    ensures second { result.second ≡ sequence_under (meaning plan.now) distribution second.meter second.reference smaller.now }
+    ensures first { result.first ≡ sequence_under (P.Plan.meaning plan.now) distribution first.meter first.reference errors.now }
+    ensures second { result.second ≡ sequence_under (P.Plan.meaning plan.now) distribution second.meter second.reference smaller.now }
 {
     Endings {
         first: sequence(plan, distribution, first, errors),
@@ -42,10 +42,10 @@ pub fn sequence_pair<P: Plan>(
     second: Permitted,
     smaller: &[i32],
 ) -> Endings
-    ensures first { result.first ≡ sequence_under (meaning plan.now) distribution first.meter first.reference errors.now }
-    ensures second { result.second ≡ sequence_under (meaning plan.now) distribution second.meter second.reference smaller.now }
-    ensures no_worse { Eased (meaning plan.now) first.meter first.reference errors.now second.meter second.reference smaller.now → NoWorse result.first result.second }
-    ensures steady { Steady (meaning plan.now) }
+    ensures first { result.first ≡ sequence_under (P.Plan.meaning plan.now) distribution first.meter first.reference errors.now }
+    ensures second { result.second ≡ sequence_under (P.Plan.meaning plan.now) distribution second.meter second.reference smaller.now }
+    ensures no_worse { Eased (P.Plan.meaning plan.now) first.meter first.reference errors.now second.meter second.reference smaller.now → NoWorse result.first result.second }
+    ensures steady { Steady (P.Plan.meaning plan.now) }
 {
     end_both(plan, distribution, first, errors, second, smaller)
 }

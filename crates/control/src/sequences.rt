@@ -16,9 +16,9 @@ use method::{Plan, Verdict};
 
 // The errors one by one, until the attempt ends or none is left: its numbers, and its end.
 fn run_through<P: Plan>(plan: &P, width: u32, errors: &[i32]) -> (Tally, Option<Verdict>)
-    ensures ends { ending_of result.0 result.1 ≡ sequence_end (meaning plan.now) width errors.now }
-    ensures tally { result.0 ≡ tally_of (meaning plan.now) width (take result.0.observations errors.now) }
-    ensures whole { result.1 ≡ None → result.0 ≡ tally_of (meaning plan.now) width errors.now }
+    ensures ends { ending_of result.0 result.1 ≡ sequence_end (P.Plan.meaning plan.now) width errors.now }
+    ensures tally { result.0 ≡ tally_of (P.Plan.meaning plan.now) width (take result.0.observations errors.now) }
+    ensures whole { result.1 ≡ None → result.0 ≡ tally_of (P.Plan.meaning plan.now) width errors.now }
     ensures sound { Sound result.0 }
     ensures some { is_some result.1 ≡ true → 1 ≤ result.0.observations }
     ensures room { result.1 ≡ None → result.0.observations < 48 }
@@ -54,9 +54,9 @@ pub fn sequence<P: Plan>(
     permitted: Permitted,
     errors: &[i32],
 ) -> Option<Ending>
-    ensures is { result ≡ sequence_under (meaning plan.now) distribution permitted.meter permitted.reference errors.now }
-    ensures first { EndsFirst (meaning plan.now) (tolerance_under (meaning plan.now) distribution permitted.meter permitted.reference) errors.now result }
-    ensures by_cut { EndsByCut (meaning plan.now) errors.now result }
+    ensures is { result ≡ sequence_under (P.Plan.meaning plan.now) distribution permitted.meter permitted.reference errors.now }
+    ensures first { EndsFirst (P.Plan.meaning plan.now) (tolerance_under (P.Plan.meaning plan.now) distribution permitted.meter permitted.reference) errors.now result }
+    ensures by_cut { EndsByCut (P.Plan.meaning plan.now) errors.now result }
 {
     let tolerance = Tolerance::new(permitted, plan, distribution);
     let (tally, verdict) = run_through(plan, tolerance.width, errors);
@@ -66,7 +66,7 @@ pub fn sequence<P: Plan>(
 impl Attempt {
     // A new attempt, brought by these errors to its end or as far as they go. Its numbers are those of the errors observed.
     pub fn over<P: Plan>(plan: &P, tolerance: Tolerance, errors: &[i32]) -> Progress
-        ensures { elim result [ Progress.GoesOn a ↦ Brought (meaning plan.now) tolerance.width errors.now a.tally None × (a.tolerance ≡ tolerance) | Progress.Ended f ↦ Brought (meaning plan.now) tolerance.width errors.now f.tally (Some f.verdict) × (f.tolerance ≡ tolerance) ] }
+        ensures { elim result [ Progress.GoesOn a ↦ Brought (P.Plan.meaning plan.now) tolerance.width errors.now a.tally None × (a.tolerance ≡ tolerance) | Progress.Ended f ↦ Brought (P.Plan.meaning plan.now) tolerance.width errors.now f.tally (Some f.verdict) × (f.tolerance ≡ tolerance) ] }
     {
         let (tally, verdict) = run_through(plan, tolerance.width, errors);
         as_progress(tolerance, tally, verdict)

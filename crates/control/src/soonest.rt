@@ -6,7 +6,7 @@ use method::Plan;
 
 // Whether an observation i in tolerance would end an attempt with x out.
 fn could_end_fit<P: Plan>(plan: &P, x: u32, i: u32) -> bool
-    ensures { result ≡ could_end (meaning plan.now) x i }
+    ensures { result ≡ could_end (P.Plan.meaning plan.now) x i }
 {
     if i64::from(x) <= i64::from(plan.accept_number(i)) {
         return true;
@@ -16,8 +16,8 @@ fn could_end_fit<P: Plan>(plan: &P, x: u32, i: u32) -> bool
 
 // The least observation after n, up to the cut, at which an attempt with x out could end fit if all to come are in tolerance; 0 if there is none.
 pub fn soonest_fit<P: Plan>(plan: &P, n: u32, x: u32) -> u32
-    ensures is { result ≡ soonest_fit (meaning plan.now) n x }
-    ensures foretells { Foretells (meaning plan.now) n x result }
+    ensures is { result ≡ soonest_fit (P.Plan.meaning plan.now) n x }
+    ensures foretells { Foretells (P.Plan.meaning plan.now) n x result }
 {
     let cut = plan.cut();
     if n >= cut {

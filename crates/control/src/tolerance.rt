@@ -17,7 +17,7 @@ pub struct Tolerance {
 
 // The plan's coefficient K for a distribution.
 fn coefficient_of<P: Plan>(plan: &P, distribution: Distribution) -> u32
-    ensures is { result ≡ coefficient (meaning plan.now) distribution }
+    ensures is { result ≡ coefficient (P.Plan.meaning plan.now) distribution }
     ensures high { result ≤ 9999 }
 {
     match distribution {
@@ -45,7 +45,7 @@ pub fn tolerance_width<P: Plan>(
     reference: u32,
 ) -> u32
     requires permits { Permits meter reference }
-    ensures is { result ≡ tolerance_under (meaning plan.now) distribution meter reference }
+    ensures is { result ≡ tolerance_under (P.Plan.meaning plan.now) distribution meter reference }
     ensures some { 1 ≤ result }
     ensures high { result ≤ 10000000 }
 {
@@ -54,7 +54,7 @@ pub fn tolerance_width<P: Plan>(
 
 impl Tolerance {
     pub fn new<P: Plan>(permitted: Permitted, plan: &P, distribution: Distribution) -> Tolerance
-        ensures { result.width ≡ tolerance_under (meaning plan.now) distribution permitted.meter permitted.reference }
+        ensures { result.width ≡ tolerance_under (P.Plan.meaning plan.now) distribution permitted.meter permitted.reference }
     {
         Tolerance {
             width: tolerance_width(plan, distribution, permitted.meter, permitted.reference),

@@ -15,7 +15,7 @@ pub enum Zone {
 
 // The zone of observation i with x out by then.
 pub fn zone_of<P: Plan>(plan: &P, i: u32, x: u32) -> Zone
-    ensures { result ≡ zone_at (meaning plan.now) i x }
+    ensures { result ≡ zone_at (P.Plan.meaning plan.now) i x }
 {
     let accepts = i64::from(x) <= i64::from(plan.accept_number(i));
     let rejects = x >= plan.reject_number(i);
@@ -29,7 +29,7 @@ pub fn zone_of<P: Plan>(plan: &P, i: u32, x: u32) -> Zone
 
 // The zone between the lines.
 fn past_lines<P: Plan>(plan: &P, i: u32, x: u32) -> Zone
-    ensures { result ≡ between_lines (meaning plan.now) i x }
+    ensures { result ≡ between_lines (P.Plan.meaning plan.now) i x }
 {
     if i < plan.cut() {
         Zone::GoOn

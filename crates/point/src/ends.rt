@@ -17,7 +17,7 @@ fn retry<M: Plan>(main: &M, dominance: bool, trial: Trial, before: Before) -> Ph
     requires within { Within trial }
     requires first { earlier trial.course ≡ 0 }
     requires made { made_before before ≡ trial.tally.observations }
-    ensures is { result ≡ another (meaning main.now) dominance trial before }
+    ensures is { result ≡ another (M.Plan.meaning main.now) dominance trial before }
     ensures held { Held result }
     ensures taken { (taken result ≡ taken_by trial) × (is_open result ≡ true) }
 {
@@ -57,7 +57,7 @@ fn first_full<M: Plan>(main: &M, trial: Trial, dominance: bool, v: Verdict, q: V
     requires within { Within trial }
     requires some { 1 ≤ trial.tally.observations }
     requires first { earlier trial.course ≡ 0 }
-    ensures is { result ≡ first_full (meaning main.now) trial dominance v q }
+    ensures is { result ≡ first_full (M.Plan.meaning main.now) trial dominance v q }
     ensures held { Held result }
     ensures taken { (taken result ≡ taken_by trial) × (is_open result ≡ true) }
 {
@@ -99,7 +99,7 @@ fn main_end<M: Plan>(main: &M, control: Control, before: Before, trial: Trial, v
     requires within { Within trial }
     requires some { 1 ≤ trial.tally.observations }
     requires course { trial.course ≡ Main before }
-    ensures is { result ≡ main_end (meaning main.now) control before trial v }
+    ensures is { result ≡ main_end (M.Plan.meaning main.now) control before trial v }
     ensures held { Held result }
     ensures taken { (taken result ≡ taken_by trial) × (is_open result ≡ true) }
 {
@@ -121,7 +121,7 @@ fn short_end<M: Plan>(main: &M, dominance: bool, trial: Trial, v: Verdict) -> Ph
     requires within { Within trial }
     requires some { 1 ≤ trial.tally.observations }
     requires first { earlier trial.course ≡ 0 }
-    ensures is { result ≡ short_end (meaning main.now) dominance trial v }
+    ensures is { result ≡ short_end (M.Plan.meaning main.now) dominance trial v }
     ensures held { Held result }
     ensures taken { (taken result ≡ taken_by trial) × (is_open result ≡ true) }
 {
@@ -137,7 +137,7 @@ fn short_end<M: Plan>(main: &M, dominance: bool, trial: Trial, v: Verdict) -> Ph
 fn conclude<M: Plan>(main: &M, control: Control, dominance: bool, trial: Trial, v: Verdict) -> Phase
     requires within { Within trial }
     requires some { 1 ≤ trial.tally.observations }
-    ensures is { result ≡ attempt_end (meaning main.now) control dominance trial.course trial v }
+    ensures is { result ≡ attempt_end (M.Plan.meaning main.now) control dominance trial.course trial v }
     ensures held { Held result }
     ensures taken { (taken result ≡ taken_by trial) × (is_open result ≡ true) }
 {

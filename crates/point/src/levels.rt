@@ -34,7 +34,7 @@ fn offset_by(signal: i32, offset: i32) -> i32
 }
 
 fn offset_at<P: Plan>(plan: &P, i: u32) -> i32
-    ensures is { result ≡ (meaning plan.now).offset i }
+    ensures is { result ≡ (P.Plan.meaning plan.now).offset i }
     ensures small { unsigned_abs result ≤ 48 }
 {
     plan.offset(i)
@@ -43,7 +43,7 @@ fn offset_at<P: Plan>(plan: &P, i: u32) -> i32
 // The level of observation i.
 fn shifted<P: Plan>(plan: &P, signal: i32, i: u32) -> i32
     requires { unsigned_abs signal ≤ 20000000 }
-    ensures is { result ≡ level_at (meaning plan.now) signal i }
+    ensures is { result ≡ level_at (P.Plan.meaning plan.now) signal i }
     ensures small { unsigned_abs result ≤ 20000048 }
 {
     offset_by(signal, offset_at(plan, i))
@@ -60,7 +60,7 @@ fn difference(a: i32, b: i32) -> i32
 pub(crate) fn error_of<P: Plan>(plan: &P, signal: i32, i: u32, code: i32) -> i32
     requires signal { unsigned_abs signal ≤ 20000000 }
     requires legal { legal_code code ≡ true }
-    ensures { result ≡ error_at (meaning plan.now) signal i code }
+    ensures { result ≡ error_at (P.Plan.meaning plan.now) signal i code }
 {
     difference(in_tenths(code), shifted(plan, signal, i))
 }
@@ -88,7 +88,7 @@ pub fn settling_level<M: Plan, S: Plan>(
 
 fn level_on<P: Plan>(plan: &P, trial: Trial) -> Level
     requires { Within trial }
-    ensures { result ≡ observing_level_of (meaning plan.now) trial }
+    ensures { result ≡ observing_level_of (P.Plan.meaning plan.now) trial }
 {
     let made = trial.tally.observations;
     Level {

@@ -31,7 +31,7 @@ pub(crate) fn begin<P: Plan>(
 ) -> Trial
     requires set { Set setting }
     requires few { (settled ≤ 200) × (earlier course ≤ 48) }
-    ensures is { result ≡ begun (meaning plan.now) dominance setting settled course }
+    ensures is { result ≡ begun (P.Plan.meaning plan.now) dominance setting settled course }
     ensures within { Within result }
 {
     let distribution = distribution_after(dominance);
@@ -99,8 +99,8 @@ pub(crate) fn note<P: Plan>(plan: &P, trial: Trial, code: i32) -> (Trial, Option
     requires within { Within trial }
     requires room { trial.tally.observations ≤ 47 }
     requires legal { legal_code code ≡ true }
-    ensures is { result.0 ≡ noted (meaning plan.now) trial code }
-    ensures verdict { result.1 ≡ noted_verdict (meaning plan.now) trial code }
+    ensures is { result.0 ≡ noted (P.Plan.meaning plan.now) trial code }
+    ensures verdict { result.1 ≡ noted_verdict (P.Plan.meaning plan.now) trial code }
     ensures within { Within result.0 }
     ensures room { result.1 ≡ None → result.0.tally.observations ≤ 47 }
     ensures more { (result.0.tally.observations ≡ trial.tally.observations + 1) × ((result.0.settled ≡ trial.settled) × (result.0.course ≡ trial.course)) }
