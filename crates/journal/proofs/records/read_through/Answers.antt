@@ -1,6 +1,6 @@
-use Rattle.std.proofs.Common.{◌≡◌, ℕ, ◌+◌, ◌<◌, ◌≤◌, length, get_or, Some, None, Ok, Err, sym, refl, ap, ◌∙◌, subst, arith, rules}
+use Rattle.std.proofs.Common.{◌≡◌, ℕ, ◌+◌, ◌≤◌, length, Some, None, Ok, Err, sym, refl, ap, ◌∙◌, subst, arith}
 use Rattle.std.proofs.lemmas.Result.{err_from_is_err_and}
-use Rattle.journal.specs.Journal.{next_of, record_bytes, journal_bytes, span, count}
+use Rattle.journal.specs.Journal.{next_of, journal_bytes, span, count}
 use Rattle.journal.specs.Reading.{Bytes}
 use Rattle.journal.specs.declared.record.Extent.{Extent}
 use Rattle.journal.proofs.Journals.{Read, read_more, read_holds, read_stops, read_all, read_no_fault, end_at, journal_laws}
