@@ -1,5 +1,5 @@
 -- What a chosen plan's truncation means, read off the truncation of the plan that was chosen.
-use Rattle.std.proofs.Common.{◌≡◌, ℕ, ℤ, nat_abs, sym, refl, subst}
+use Rattle.std.proofs.Common.{◌≡◌, ℤ, nat_abs, sym, subst}
 use Rattle.method.specs.Meaning.{Meaning}
 use Rattle.method.specs.Plans.{Alike, truncated}
 

@@ -1,5 +1,5 @@
 -- What is taken of a line's words is what its grammar goes on with.
-use Rattle.std.proofs.Common.{◌≡◌, ℕ, List, [], ◌∷◌, Some, None, Option, sym, refl, ap, ◌∙◌, arith}
+use Rattle.std.proofs.Common.{◌≡◌, ℕ, List, [], ◌∷◌, Some, None, Option, refl, ap, ◌∙◌, arith}
 use Rattle.console.specs.Grammar.{Took, Word, takes, then}
 
 module _ {A R : Type 0} (read : Word → Option A) (k : A → List Word → Option R) where

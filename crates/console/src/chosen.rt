@@ -8,6 +8,7 @@ ghost use Rattle.console.specs.ChosenRanges.{chosen_ranged};
 use method::{Line, Plan, Question, Tabled, ThreeStep, Truncated};
 
 // Each plan with its own cut, or truncated. A truncation of a truncation is one truncation.
+#[derive(Clone, Copy)]
 pub enum ChosenPlan {
     Line(Line),
     CutLine(Truncated<Line>),
@@ -16,8 +17,6 @@ pub enum ChosenPlan {
     Table(Tabled),
     CutTable(Truncated<Tabled>),
 }
-
-impl Copy for ChosenPlan {}
 
 // The same question to whichever plan it is.
 macro_rules! ask {

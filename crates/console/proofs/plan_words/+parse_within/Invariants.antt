@@ -1,4 +1,4 @@
 use Rattle.console.proofs.plan_words.+parse_within.Given as goal
 
-abbrev pub decreases-parse-within : goal.decreases-parse-within
-decreases-parse-within l = l.depth
+abbrev pub decreases-parse_within : goal.decreases-parse_within
+decreases-parse_within l = l.depth

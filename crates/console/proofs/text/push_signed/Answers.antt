@@ -6,6 +6,6 @@ use Rattle.console.proofs.text.push_signed.Goals as goal
 
 pub returns : goal.returns
 returns c =
-    IfOk-weaker c.push-natural-2.result _ _
-    (λ x g. minus c.args.number _ (search rules) (c.unsigned-abs.ensures.value ∙ ap nat_abs (to_z-of_z w32 c.args.number c.ranges.number)) c.in-ok-push-bytes.ensures g)
-    c.push-natural-2.ensures
+    IfOk-weaker c.push_natural-2.result _ _
+    (λ x g. minus c.args.number _ (search rules) (c.unsigned_abs.ensures.value ∙ ap nat_abs (to_z-of_z w32 c.args.number c.ranges.number)) c.in_ok-push_bytes.ensures g)
+    c.push_natural-2.ensures

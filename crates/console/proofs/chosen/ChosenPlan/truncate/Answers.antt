@@ -4,20 +4,20 @@ use Rattle.console.specs.Chosen.{chosen_meaning}
 use Rattle.console.proofs.ChosenCuts.{cut_of}
 use Rattle.console.proofs.chosen.ChosenPlan.truncate.Goals as goal
 
-pub returns-in-ok-truncate : goal.returns-in-ok-truncate
-returns-in-ok-truncate c = record {
+pub returns-in_ok-truncate-in-CutLine : goal.returns-in_ok-truncate-in-CutLine
+returns-in_ok-truncate-in-CutLine c = record {
   refuses = search rules;
-  makes = cut_of _ _ _ _ _ _ _ (ap chosen_meaning c.in-CutLine.is) (to_z-of_z w32 c.args.cut c.ranges.cut) (to_z-of_z w32 c.args.cut_number c.ranges.cut_number) c.in-ok-truncate.ensures.alike;
+  makes = cut_of _ _ _ _ _ _ _ (ap chosen_meaning c.in-CutLine.is) (to_z-of_z w32 c.args.cut c.ranges.cut) (to_z-of_z w32 c.args.cut_number c.ranges.cut_number) c.in_ok-truncate-in-CutLine.ensures.alike;
 }
 
-pub returns-in-ok-truncate-2 : goal.returns-in-ok-truncate-2
-returns-in-ok-truncate-2 c = record {
+pub returns-in_ok-truncate-in-CutShort : goal.returns-in_ok-truncate-in-CutShort
+returns-in_ok-truncate-in-CutShort c = record {
   refuses = search rules;
-  makes = cut_of _ _ _ _ _ _ _ (ap chosen_meaning c.in-CutShort.is) (to_z-of_z w32 c.args.cut c.ranges.cut) (to_z-of_z w32 c.args.cut_number c.ranges.cut_number) c.in-ok-truncate-2.ensures.alike;
+  makes = cut_of _ _ _ _ _ _ _ (ap chosen_meaning c.in-CutShort.is) (to_z-of_z w32 c.args.cut c.ranges.cut) (to_z-of_z w32 c.args.cut_number c.ranges.cut_number) c.in_ok-truncate-in-CutShort.ensures.alike;
 }
 
-pub returns-in-ok-truncate-3 : goal.returns-in-ok-truncate-3
-returns-in-ok-truncate-3 c = record {
+pub returns-in_ok-truncate-in-CutTable : goal.returns-in_ok-truncate-in-CutTable
+returns-in_ok-truncate-in-CutTable c = record {
   refuses = search rules;
-  makes = cut_of _ _ _ _ _ _ _ (ap chosen_meaning c.in-CutTable.is) (to_z-of_z w32 c.args.cut c.ranges.cut) (to_z-of_z w32 c.args.cut_number c.ranges.cut_number) c.in-ok-truncate-3.ensures.alike;
+  makes = cut_of _ _ _ _ _ _ _ (ap chosen_meaning c.in-CutTable.is) (to_z-of_z w32 c.args.cut c.ranges.cut) (to_z-of_z w32 c.args.cut_number c.ranges.cut_number) c.in_ok-truncate-in-CutTable.ensures.alike;
 }

@@ -4,5 +4,5 @@ use Rattle.console.proofs.words.Words.behind.Goals as goal
 
 pub loop-taken-preserved : goal.loop-taken-preserved
 loop-taken-preserved c =
-    dropped_more (words_by blank c.args.line.now) _ _ c.loop-taken.-taken c.next.result c.loop-taken.invariant
+    dropped_more (words_by blank c.args.line.now) _ _ c.loop-taken._taken c.next.result c.loop-taken.invariant
     c.next.ensures.words

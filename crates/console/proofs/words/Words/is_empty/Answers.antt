@@ -4,4 +4,4 @@ use Rattle.console.proofs.Parted.{emptied}
 use Rattle.console.proofs.words.Words.is_empty.Goals as goal
 
 pub returns : goal.returns
-returns c = c.is-empty.ensures ∙ sym (emptied blank c.args.self.now.rest.now _ c.skip-blanks.ensures.is)
+returns c = c.is_empty.ensures ∙ sym (emptied blank c.args.self.now.rest.now _ c.skip_blanks.ensures.is)
