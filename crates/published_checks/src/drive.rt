@@ -2,7 +2,7 @@
 use crate::meter::{Bias, code_at};
 use journal::{Reader, Record};
 use method::{Line, ThreeStep, Truncated, Verdict};
-use std::test::*;
+use std::test::Fail;
 use verification::{Check, Inspection, Orders, Verification};
 
 pub type Bench = Verification<Truncated<Line>, ThreeStep>;

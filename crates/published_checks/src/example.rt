@@ -4,7 +4,8 @@ use crate::meter::Bias;
 use control::{Distribution, Permitted, Tolerance};
 use journal::{FirstAttempt, Quantity, Record, SequenceFields};
 use method::{Line, Plan, Truncated, Verdict};
-use std::test::*;
+use std::process::Abort;
+use std::test::Fail;
 
 // What is printed of one attempt. Dominance is a ratio above 8, where the print has the function of the random part at 0.
 #[derive(Clone, Copy)]
@@ -64,6 +65,7 @@ impl Example {
     // that tolerance wherever they are also the ones used.
     fn tolerance_after(
         self,
+        rt: &impl Abort,
         plan: Truncated<Line>,
         dominance: bool,
         printed: u16,
@@ -74,12 +76,12 @@ impl Example {
             (Distribution::Trapezoid, plan.trapezoid_k())
         };
         let tolerance = (self.number, u64::from(printed));
-        assert_eq!((self.number, self.rounded_tolerance(k)?), tolerance);
+        assert_eq!(rt; (self.number, self.rounded_tolerance(k)?), tolerance);
         let permitted = Permitted::new(i32::from(self.meter), i32::from(self.reference))?;
         let width = Tolerance::new(permitted, &plan, distribution).width();
         if self.is_exact() {
             let rounded = (u64::from(width) + 500) / 1_000;
-            assert_eq!((self.number, rounded), tolerance);
+            assert_eq!(rt; (self.number, rounded), tolerance);
         }
         Ok(width)
     }
@@ -99,14 +101,15 @@ impl Example {
     // What the record has to say, with those fields of `found` that are not printed.
     fn expected(
         self,
+        rt: &impl Abort,
         plan: Truncated<Line>,
         found: SequenceFields,
     ) -> Result<SequenceFields, Fail> {
-        let width = self.tolerance_after(plan, false, self.tolerance)?;
+        let width = self.tolerance_after(rt, plan, false, self.tolerance)?;
         let (width, last) = match self.second {
             None => (width, self.first),
             Some((printed, second)) => (
-                self.tolerance_after(plan, self.first.dominance, printed)?,
+                self.tolerance_after(rt, plan, self.first.dominance, printed)?,
                 second,
             ),
         };
@@ -130,7 +133,7 @@ impl Example {
     }
 
     // Runs the example as the one point of a verification at the signal 0.
-    pub fn run(self, plan: Truncated<Line>) -> Result<(), Fail> {
+    pub fn run(self, rt: &impl Abort, plan: Truncated<Line>) -> Result<(), Fail> {
         let mut bench = begin(1, FULL, plan)?;
         bench.open(0, i32::from(self.meter), i32::from(self.reference), 0)?;
         let course = observe(&mut bench, self.bias)?;
@@ -138,15 +141,15 @@ impl Example {
             None => 0,
             Some(_) => self.first.observations,
         };
-        assert_eq!(
+        assert_eq!(rt;
             (self.number, course.earlier),
             (self.number, u32::from(earlier))
         );
         let Record::Sequence(found) = closed(&mut bench)? else {
             return Err(Fail::new("another record"));
         };
-        let expected = self.expected(plan, found)?;
-        assert_eq!((self.number, found), (self.number, expected));
+        let expected = self.expected(rt, plan, found)?;
+        assert_eq!(rt; (self.number, found), (self.number, expected));
         Ok(())
     }
 }

@@ -1,5 +1,5 @@
 // The simulated meter of the published examples: an ideal quantiser behind a bias.
-use std::test::*;
+use std::test::Fail;
 
 // A disturbance of one observation, in tenths.
 #[derive(Clone, Copy)]

@@ -2,7 +2,7 @@
 use crate::example::{Attempt, Example};
 use crate::meter::{Bias, Pulse};
 use method::{Truncated, Verdict};
-use std::test::*;
+use std::test::Fail;
 
 const NO_PULSE: Pulse = Pulse {
     observation: 0,
@@ -337,9 +337,9 @@ const TABLE_4: [Example; 15] = [
 ];
 
 #[test]
-fn the_examples_of_normal_control() -> Result<(), Fail> {
+fn the_examples_of_normal_control(rt: HostRuntime) -> Result<(), Fail> {
     for example in TABLE_4 {
-        example.run(Truncated::normal())?;
+        example.run(&rt, Truncated::normal())?;
     }
     Ok(())
 }
@@ -361,6 +361,6 @@ const EXAMPLE_2_UNROUNDED: Example = Example {
 };
 
 #[test]
-fn example_2_with_its_tolerance_unrounded() -> Result<(), Fail> {
-    EXAMPLE_2_UNROUNDED.run(Truncated::normal())
+fn example_2_with_its_tolerance_unrounded(rt: HostRuntime) -> Result<(), Fail> {
+    EXAMPLE_2_UNROUNDED.run(&rt, Truncated::normal())
 }

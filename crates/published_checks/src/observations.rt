@@ -2,7 +2,7 @@
 use crate::meter::error_at;
 use method::{Line, Plan, Truncated};
 use std::process::Abort;
-use std::test::*;
+use std::test::Fail;
 
 // The observation; its errors in tenths at the biases of 1.3 and of 4.0 steps; the reject and the accept line in thousandths.
 type Row = (u8, i64, i64, u32, i32);

@@ -4,7 +4,7 @@ use crate::meter::{Bias, code_at, error_at};
 use journal::{FirstAttempt, Record, SequenceFields, ThreeStepFields};
 use method::{Plan, ThreeStep, Truncated, Verdict};
 use std::process::Abort;
-use std::test::*;
+use std::test::Fail;
 
 // The bias, the permitted errors and the printed errors are in tenths; the printed tolerance is D.
 #[derive(Clone, Copy)]

@@ -2,7 +2,7 @@
 use crate::example::{Attempt, Example};
 use crate::meter::Bias;
 use method::{Truncated, Verdict};
-use std::test::*;
+use std::test::Fail;
 
 const UNFIT_AT_4: Attempt = Attempt {
     observations: 4,
@@ -202,9 +202,9 @@ const TABLE_3: [Example; 11] = [
 ];
 
 #[test]
-fn the_examples_of_strengthened_control() -> Result<(), Fail> {
+fn the_examples_of_strengthened_control(rt: HostRuntime) -> Result<(), Fail> {
     for example in TABLE_3 {
-        example.run(Truncated::strengthened())?;
+        example.run(&rt, Truncated::strengthened())?;
     }
     Ok(())
 }
