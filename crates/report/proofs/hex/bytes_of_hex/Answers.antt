@@ -30,7 +30,7 @@ moved {xs = xs} {t = t} b e f g =
 pub loop-b-preserved : goal.loop-b-preserved
 loop-b-preserved c =
     let m = fold_more read_more read_none c.args.text.now c.loop-b.b-index 0 (omega arith) in
-    let k = c.in-ok-keep.ensures in
+    let k = c.in_ok-keep.ensures in
     m ∙ moved (get_or c.args.text.now c.loop-b.b-index 0) c.loop-b.invariant c.advance-next.ensures k
 
 pub returns-in-Some : goal.returns-in-Some
