@@ -1,4 +1,4 @@
-use Rattle.std.proofs.Common.{arith, w32, SFits, rules}
+use Rattle.std.proofs.Common.{arith, rules}
 use Rattle.report.proofs.Sizes.{sizes, passed}
 use Rattle.report.proofs.estimates.dispersion_of.Goals as goal
 

@@ -1,8 +1,8 @@
-use Rattle.std.proofs.Common.{◌≡◌, ℕ, List, ◌++◌, get_or, Some, vec_items, Option, sym, ap, ◌∙◌, subst, arith}
+use Rattle.std.proofs.Common.{◌≡◌, ℕ, List, ◌++◌, get_or, Some, vec_items, Option, sym, ap, ◌∙◌, arith}
 use Rattle.std.proofs.lemmas.List.{take_all}
 use Rattle.std.proofs.lemmas.List.Sums.{fold_more}
 use Rattle.std.specs.Option.{option_to_list}
-use Rattle.report.specs.Hex.{Read, Refuses, fault_of, hex_bytes, hex_fault, read_more, read_none, read_all, step_of}
+use Rattle.report.specs.Hex.{Read, Refuses, fault_of, read_more, read_none, read_all, step_of}
 use Rattle.report.specs.declared.scan.Scan.{Scan}
 use Rattle.report.specs.declared.scan.Step.{Step}
 use Rattle.report.specs.declared.scan.HexError.{HexError}
