@@ -1,5 +1,5 @@
 -- How large the numbers of a record in range are.
-use Rattle.std.proofs.Common.{◌≡◌, ℕ, ◌≤◌, true, false, ℤ, pos, negsuc, nat_abs, ap, arith, w32, SFits, to_z, of_z}
+use Rattle.std.proofs.Common.{◌≡◌, ◌≤◌, true, ℤ, pos, negsuc, nat_abs, ap, arith, w32, SFits, to_z, of_z}
 use Rattle.journal.specs.declared.sequence.SequenceFields.{SequenceFields}
 use Rattle.method.specs.Refusals.{between}
 use Rattle.std.proofs.lemmas.Int.{to_z-of_z}

@@ -1,8 +1,8 @@
-use Rattle.std.proofs.Common.{◌≡◌, ℕ, List, ◌++◌, get_or, Some, vec_items, Option, sym, ap, ◌∙◌, subst, arith}
+use Rattle.std.proofs.Common.{◌≡◌, ℕ, List, ◌++◌, get_or, Some, vec_items, Option, sym, ap, ◌∙◌, arith}
 use Rattle.std.proofs.lemmas.List.{take_all}
 use Rattle.std.proofs.lemmas.List.Sums.{fold_more}
 use Rattle.std.specs.Option.{option_to_list}
-use Rattle.report.specs.Hex.{Read, Refuses, fault_of, hex_bytes, hex_fault, read_more, read_none, read_all, step_of}
+use Rattle.report.specs.Hex.{Read, Refuses, fault_of, read_more, read_none, read_all, step_of}
 use Rattle.report.specs.declared.scan.Scan.{Scan}
 use Rattle.report.specs.declared.scan.Step.{Step}
 use Rattle.report.specs.declared.scan.HexError.{HexError}
@@ -30,7 +30,7 @@ moved {xs = xs} {t = t} b e f g =
 pub loop-b-preserved : goal.loop-b-preserved
 loop-b-preserved c =
     let m = fold_more read_more read_none c.args.text.now c.loop-b.b-index 0 (omega arith) in
-    let k = c.in-ok-keep.ensures in
+    let k = c.in_ok-keep.ensures in
     m ∙ moved (get_or c.args.text.now c.loop-b.b-index 0) c.loop-b.invariant c.advance-next.ensures k
 
 pub returns-in-Some : goal.returns-in-Some
