@@ -1,5 +1,5 @@
 -- The soonest observation is where an attempt ends that stays in tolerance.
-use Rattle.std.proofs.Common.{◌≡◌, ℕ, zero, suc, ◌+◌, ◌-◌, ◌<◌, ◌≤◌, Bool, true, false, cond, ◌⊎◌, List, [], ◌∷◌, ◌++◌, length, ℤ, pos, Some, None, Option, sym, refl, ap, ◌∙◌, inl, inr, ⊎_elim, add-zero, arith}
+use Rattle.std.proofs.Common.{◌≡◌, ℕ, zero, suc, ◌+◌, ◌-◌, ◌<◌, ◌≤◌, true, false, cond, ◌⊎◌, List, [], ◌∷◌, ◌++◌, length, ℤ, Some, None, Option, sym, refl, ap, ◌∙◌, inl, inr, ⊎_elim, add-zero, arith}
 use Rattle.std.proofs.lemmas.Bool.{cases_Bool, cases_eq, cases_lt, true≢false}
 use Rattle.std.proofs.lemmas.Bool.Decides.{nat_tests}
 use Rattle.method.specs.Meaning.{Meaning, Ranged}
@@ -9,7 +9,6 @@ use Rattle.control.specs.Sequences.{Ends, run, or_later, sequence_end}
 use Rattle.control.specs.Tallies.{count_out}
 use Rattle.control.specs.Prospects.{AllIn, Foretells, GoingOn, could_end, first_end, soonest_fit}
 use Rattle.control.specs.declared.ending.Ending.{Ending}
-use Rattle.method.specs.declared.verdict.Verdict.{Verdict}
 use Rattle.method.specs.declared.verdict.Verdict.TheVariants.{Fit, Unfit}
 use Rattle.control.proofs.EndsFirst.{ends_first, by_cut}
 use Rattle.control.proofs.RunsOn.{sequence_on}

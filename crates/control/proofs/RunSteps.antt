@@ -1,5 +1,5 @@
 -- One turn of the loop over an attempt's errors.
-use Rattle.std.proofs.Common.{◌≡◌, ℕ, ◌+◌, ◌<◌, ◌≤◌, Bool, true, false, cond, List, length, get_or, take, drop, ℤ, pos, is_some, Some, None, Option, sym, refl, ap, ◌∙◌, arith}
+use Rattle.std.proofs.Common.{◌≡◌, ℕ, ◌+◌, ◌<◌, ◌≤◌, Bool, true, false, List, length, get_or, take, drop, ℤ, pos, is_some, Some, None, Option, sym, ap, ◌∙◌, arith}
 use Rattle.std.proofs.lemmas.List.{at_drop_more, at_drop_all, length-take-le, take_all}
 use Rattle.std.proofs.lemmas.Bool.{true≢false}
 use Rattle.std.proofs.lemmas.Bool.Decides.{nat_tests}
@@ -9,7 +9,6 @@ use Rattle.control.specs.Attempts.{tally_after, verdict_at, verdict_of, Sound}
 use Rattle.control.specs.Sequences.{run, or_later, ending_of, sequence_end}
 use Rattle.control.specs.Tallies.{tally_of}
 use Rattle.control.specs.Tolerances.{in_tolerance}
-use Rattle.control.specs.declared.ending.Ending.{Ending}
 use Rattle.control.specs.declared.tally.Tally.{Tally}
 use Rattle.control.proofs.TallySteps.{tally_more}
 

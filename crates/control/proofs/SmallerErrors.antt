@@ -1,15 +1,14 @@
 -- Smaller errors under no narrower a tolerance do no worse.
-use Rattle.std.proofs.Common.{◌≡◌, ℕ, zero, suc, ◌+◌, ◌*◌, ◌<◌, ◌≤◌, Bool, true, false, cond, eqb, ltb, leb, List, [], ◌∷◌, length, get_or, ℤ, pos, negsuc, nat_abs, Some, None, Option, sym, refl, ap, ◌∙◌, le_trans, le_refl, arith}
-use lib.Signed.{le_z}
+use Rattle.std.proofs.Common.{◌≡◌, ℕ, suc, ◌+◌, ◌<◌, ◌≤◌, Bool, true, cond, List, [], ◌∷◌, length, ℤ, nat_abs, Some, None, Option, sym, refl, ap, ◌∙◌, le_refl, arith}
 use Rattle.std.proofs.lemmas.Nat.{mul-le}
 use Rattle.std.proofs.lemmas.Int.{ints}
 use Rattle.std.proofs.lemmas.Bool.Decides.{nat_tests}
 use Rattle.method.specs.Meaning.{Meaning}
-use Rattle.control.specs.Attempts.{verdict_at, fit_if}
+use Rattle.control.specs.Attempts.{verdict_at}
 use Rattle.control.specs.Errors.{counted}
 use Rattle.control.specs.Tolerances.{in_tolerance, tolerance_with, tolerance_under, coefficient}
 use Rattle.control.specs.Sequences.{Ends, run, or_later, sequence_under}
-use Rattle.control.specs.Steadiness.{Leads, NoWorse, Nearer, Eased, Steady}
+use Rattle.control.specs.Steadiness.{NoWorse, Nearer, Eased, Steady}
 use Rattle.control.specs.declared.distribution.Distribution.{Distribution}
 use Rattle.control.specs.declared.ending.Ending.{Ending}
 use Rattle.method.specs.declared.verdict.Verdict.{Verdict}

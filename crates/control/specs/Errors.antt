@@ -1,5 +1,5 @@
 -- Errors, in tenths, and how they count.
-use Rattle.std.specs.Prelude.{ℕ, Bool, cond, ℤ, pos, negsuc, int_lt, nat_lt, unsigned_abs}
+use Rattle.std.specs.Prelude.{Bool, cond, ℤ, pos, negsuc, int_lt, nat_lt, unsigned_abs}
 
 -- beyond 2,000 in size
 abbrev pub is_wild : ℤ → Bool

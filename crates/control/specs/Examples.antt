@@ -1,5 +1,5 @@
 -- Worked examples of the definitions.
-use Rattle.std.specs.Prelude.{◌≡◌, ℕ, zero, suc, Bool, true, false, cond, ◌||◌, List, [], ◌∷◌, ◌++◌, replicate, ℤ, pos, negsuc, Some, None, Option, ◌==◌, nat_le, unsigned_abs}
+use Rattle.std.specs.Prelude.{◌≡◌, ℕ, zero, suc, Bool, false, cond, ◌||◌, List, [], ◌∷◌, ◌++◌, replicate, ℤ, pos, negsuc, Some, None, Option, ◌==◌, nat_le, unsigned_abs}
 use Rattle.method.specs.Meaning.{Meaning}
 use Rattle.method.specs.Plans.{strengthened_control, normal_control, three_step}
 use Rattle.method.specs.declared.verdict.Verdict.TheVariants.{Fit, Unfit}

@@ -1,4 +1,4 @@
-use Rattle.std.proofs.Common.{◌≡◌, ◌≤◌, true, false, get_or, pos, is_some, sym, arith, w32, SFits, rules}
+use Rattle.std.proofs.Common.{◌≡◌, true, false, get_or, pos, is_some, sym, arith, w32, SFits, rules}
 use Rattle.std.proofs.lemmas.Int.{to_z-of_z}
 use Rattle.std.proofs.lemmas.Bool.{true≢false}
 use Rattle.control.proofs.RunSteps.{stops, goes, going_on, not_over, over, listed_whole, listed_all, counted_all}
@@ -9,8 +9,8 @@ observed-verdict-requires g c =
     let r = g.met.P.Plan.ranged c.args.plan.now in
     record { sound = c.loop-error.invariant.sound; room = omega (arith, c.loop-error.invariant.early, r.cut_high) }
 
-pub returns-then-is-some : goal.returns-then-is-some
-returns-then-is-some g c =
+pub returns-then-is_some : goal.returns-then-is_some
+returns-then-is_some g c =
     let m = g.P.Plan.meaning c.args.plan.now in
     let z = get_or c.args.errors.now c.loop-error.error-index (pos 0) in
     let f : SFits w32 z = search rules in

@@ -8,6 +8,6 @@ returns g c =
     let es = c.args.errors.now in
     let d = tolerance_under m c.args.distribution c.args.permitted.meter c.args.permitted.reference in
     let r = g.met.P.Plan.ranged c.args.plan.now in
-    let e = same_end m es _ d _ c.new-tolerance.ensures c.run-through-verdict.ensures.ends _ c.as-ending.ensures in
-    let f = first_of m d es c.as-ending.result e in
-    record { is = e; first = f; by_cut = by_cut m d es r c.as-ending.result f }
+    let e = same_end m es _ d _ c.new-tolerance.ensures c.run_through-verdict.ensures.ends _ c.as_ending.ensures in
+    let f = first_of m d es c.as_ending.result e in
+    record { is = e; first = f; by_cut = by_cut m d es r c.as_ending.result f }

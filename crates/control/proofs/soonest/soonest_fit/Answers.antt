@@ -8,8 +8,8 @@ returns-then-n-cut g c =
     let least : Least m c.args.n c.args.x 0 = search rules in
     record { is = soonest_is m c.args.n c.args.x 0 least; foretells = foretells m (g.met.P.Plan.ranged c.args.plan.now) c.args.n c.args.x 0 least }
 
-pub returns-then-could-end-fit : goal.returns-then-could-end-fit
-returns-then-could-end-fit g c =
+pub returns-then-could_end_fit : goal.returns-then-could_end_fit
+returns-then-could_end_fit g c =
     let m = g.P.Plan.meaning c.args.plan.now in
     let least : Least m c.args.n c.args.x c.loop-i.i = search rules in
     record { is = soonest_is m c.args.n c.args.x c.loop-i.i least; foretells = foretells m (g.met.P.Plan.ranged c.args.plan.now) c.args.n c.args.x c.loop-i.i least }

@@ -1,5 +1,5 @@
 use Rattle.std.proofs.Common.{◌*ℤ◌, arith}
-use Rattle.std.proofs.lemmas.Int.{to_z-of_z, to_z_pos}
+use Rattle.std.proofs.lemmas.Int.{to_z-of_z}
 use Rattle.control.proofs.Products.{small_product, fits_by}
 use Rattle.control.proofs.statistics.squared_room.Goals as goal
 

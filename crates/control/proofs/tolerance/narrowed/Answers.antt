@@ -2,8 +2,8 @@ use Rattle.std.proofs.Common.{refl, arith}
 use Rattle.std.proofs.lemmas.Nat.{mul-le}
 use Rattle.control.proofs.tolerance.narrowed.Goals as goal
 
-pub overflow-sub-result : goal.overflow-sub-result
-overflow-sub-result c = omega (arith, mul-le c.args.k c.args.reference 9999 c.args.meter (omega arith) (omega arith))
+pub overflow_sub-result : goal.overflow_sub-result
+overflow_sub-result c = omega (arith, mul-le c.args.k c.args.reference 9999 c.args.meter (omega arith) (omega arith))
 
 pub returns : goal.returns
 returns c =
