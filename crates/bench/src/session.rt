@@ -39,14 +39,13 @@ pub struct Session {
 }
 
 // What the verification that runs was started with.
+#[derive(Clone, Copy)]
 struct Ordered {
     points: i32,
     control: i32,
     main: ChosenPlan,
     short: ChosenPlan,
 }
-
-impl Copy for Ordered {}
 
 fn numbers<P: Plan>(plan: &P) -> Reply {
     Reply::Numbers(PlanNumbers {
