@@ -1,8 +1,8 @@
 -- The bytes of a number.
-use Rattle.std.proofs.Common.{◌≡◌, ℕ, zero, suc, ◌+◌, ◌-◌, ◌*◌, ◌/◌, ◌%◌, ◌^◌, ◌<◌, ◌≤◌, List, [], ◌∷◌, ◌++◌, length, get_or, take, drop, set, sym, refl, ap, ◌∙◌, mul_comm, div-add-mod', zero-add, mul-suc, add-one, arith, length-append, take_all, pow_pos}
+use Rattle.std.proofs.Common.{◌≡◌, ℕ, zero, suc, ◌+◌, ◌-◌, ◌*◌, ◌/◌, ◌%◌, ◌^◌, ◌<◌, ◌≤◌, List, [], ◌∷◌, ◌++◌, length, get_or, take, drop, set, sym, refl, ap, ◌∙◌, zero-add, add-one, arith, take_all}
 use native.Mathlib.Nat.{div-div-eq-div-mul}
-use lib.Arith.{digits_div, digits_mod, digits_lt}
-use Rattle.std.proofs.lemmas.Nat.{pow-add, shr_below, shr-shr, div-mul-add, mod-mul-add}
+use lib.Arith.{digits_lt}
+use Rattle.std.proofs.lemmas.Nat.{pow-add, shr_below, shr-shr, div-mul-add}
 use Rattle.std.proofs.lemmas.List.{take_more, get_or_append_left, get_or_at}
 use Rattle.std.proofs.lemmas.List.Edits.{paste_more}
 use Rattle.journal.specs.Bits.{bytes_of, word_of}

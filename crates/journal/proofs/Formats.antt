@@ -1,5 +1,5 @@
 -- What holds of every kind of record: its bytes, and that writing and reading undo each other.
-use Rattle.std.proofs.Common.{◌≡◌, ℕ, zero, suc, ◌+◌, ◌-◌, ◌*◌, ◌/◌, ◌%◌, ◌^◌, ◌<◌, ◌≤◌, Bool, true, false, cond, ◌&&◌, eqb, leb, List, [], ◌∷◌, ◌++◌, length, get_or, take, drop, ℤ, pos, Ok, Err, Result, sym, refl, ap, ◌∙◌, append-nil, mod-eq_of_lt, mul_assoc, arith, length-append}
+use Rattle.std.proofs.Common.{◌≡◌, ℕ, suc, ◌+◌, ◌-◌, ◌*◌, ◌/◌, ◌%◌, ◌^◌, ◌<◌, ◌≤◌, Bool, true, false, cond, ◌&&◌, eqb, leb, List, ◌∷◌, ◌++◌, length, get_or, take, drop, ℤ, pos, Ok, Err, Result, sym, refl, ap, ◌∙◌, append-nil, mod-eq_of_lt, mul_assoc, arith, length-append}
 use borrow.Rule.Slice.PartMut.{put_mid}
 use Rattle.std.proofs.lemmas.Nat.{pow-add, shl_below, shl_whole, shl-shr, shr-shr, mod_below}
 use Rattle.std.proofs.lemmas.Bool.{le-leb, leb-true, eq-eqb, eqb-true, and_parts, and_from}
@@ -11,16 +11,16 @@ use Rattle.journal.specs.declared.bits.Packing.{Packing}
 use Rattle.journal.specs.declared.bits.Unpacking.{Unpacking}
 use Rattle.journal.specs.declared.fault.Fault.{Fault}
 use Rattle.journal.specs.declared.fault.Place.{Place}
-use Rattle.journal.specs.declared.fault.Layer.TheVariants.{Kind, Bits, Field}
-use Rattle.journal.specs.Bits.{packed_after, width, bytes_of, word_of, numbers_in}
+use Rattle.journal.specs.declared.fault.Layer.TheVariants.{Kind, Bits}
+use Rattle.journal.specs.Bits.{packed_after, width, bytes_of, word_of}
 use Rattle.journal.specs.Cursor.{put, put_all, take_all, behind_all, packed, headed}
-use Rattle.journal.specs.Fields.{all_in_range, in_range, kind_number, coded}
+use Rattle.journal.specs.Fields.{all_in_range, kind_number, coded}
 use Rattle.journal.specs.Format.{Format, Sound, legal, row, all_numbers, fill, word, encoded}
 use Rattle.journal.specs.Writing.{answered, laid}
-use Rattle.journal.specs.Reading.{fault, kind_of, ranged, meant, opened, decoded, Bytes, ReadsBack, ReadsOnly}
+use Rattle.journal.specs.Reading.{fault, kind_of, meant, opened, decoded, Bytes, ReadsBack, ReadsOnly}
 use Rattle.journal.proofs.Bytes.{bytes_of_word_of, word_of_bytes_of, word_of_append, word_of_lt, length_bytes_of, getD_bytes_of, word_of_top}
 use Rattle.journal.proofs.Places.{lifted, by_places, eqb_shifted}
-use Rattle.journal.specs.Rows.{in_range_length, packed_lt, put_all_is, code_first, rest_behind, row_of, length_take_all, taken, only}
+use Rattle.journal.specs.Rows.{packed_lt, put_all_is, code_first, rest_behind, row_of, length_take_all, taken, only}
 
 refused : (a b : Bool) (n : ℕ) (q : Question) (old new : List ℕ) → Err q ≡ cond a (cond b (Ok n) (Err FitsBuffer)) (Err FieldsInRange) → old ≡ cond (a && b) new old
 refused true true n q old new h = let z : ◌≡◌ {A = ℕ} 0 1 = cc in absurd (omega arith)

@@ -1,17 +1,15 @@
 -- Records one behind another: what is written is read again, and nothing else.
-use Rattle.std.proofs.Common.{◌≡◌, ℕ, zero, suc, ◌+◌, ◌-◌, ◌*◌, ◌/◌, ◌<◌, ◌≤◌, Bool, true, false, cond, ◌&&◌, eqb, leb, List, [], ◌∷◌, ◌++◌, length, get_or, take, drop, replicate, Some, None, Ok, Err, Option, Result, sym, refl, ap, ◌∙◌, subst, append_assoc, append-nil, add-zero, arith, length-append}
-use Rattle.std.proofs.lemmas.Bool.{eq-eqb, ne_eqb, eqb-true, eqb-false, and_parts, and_from, le-leb}
+use Rattle.std.proofs.Common.{◌≡◌, ℕ, zero, suc, ◌+◌, ◌-◌, ◌/◌, ◌<◌, ◌≤◌, Bool, true, false, cond, eqb, List, [], ◌∷◌, ◌++◌, length, get_or, take, drop, Some, None, Ok, Err, Option, Result, sym, refl, ap, ◌∙◌, subst, append_assoc, append-nil, add-zero, arith, length-append}
+use Rattle.std.proofs.lemmas.Bool.{eq-eqb, ne_eqb, eqb-true, and_parts, and_from, le-leb}
 use Rattle.std.proofs.lemmas.List.{drop_all, drop-drop, length-drop, take_rest, drop_at, take_at, length-take-le, take-append-drop}
-use Rattle.method.specs.declared.question.Question.TheVariants.{RecordKindKnown}
 use Rattle.journal.specs.declared.fault.Fault.{Fault}
 use Rattle.journal.specs.declared.fault.Place.{Place}
-use Rattle.journal.specs.declared.fault.Layer.TheVariants.{Kind}
 use Rattle.journal.specs.declared.record.Record.{Record}
 use Rattle.journal.specs.declared.record.Record.TheVariants.{Sequence, ThreeStep, Certificate, Notice}
 use Rattle.journal.specs.declared.record.Placed.{Placed}
 use Rattle.journal.specs.Format.{Format, Sound, legal, encoded}
 use Rattle.journal.specs.Kinds.{sequence, three_step, certificate, notice}
-use Rattle.journal.specs.Reading.{fault, kind_of, decoded, Bytes}
+use Rattle.journal.specs.Reading.{kind_of, decoded, Bytes}
 use Rattle.journal.specs.Writing.{laid}
 use Rattle.journal.specs.Journal.{legal_record, record_bytes, named, of_kind, by_kind, decoded_any, place_of, placed, next_of, span, count, journal_bytes, all_legal, placed_from, answers, then_end, JournalReadsBack, JournalReadsOnly, FaultStays, Holds, Stops, all_laid, RecordsBehind, JournalLaws}
 use Rattle.journal.proofs.Formats.{reads_back, reads_only, reads_whole, length_encoded}

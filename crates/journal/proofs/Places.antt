@@ -1,5 +1,5 @@
 -- What a cursor takes off a number's bits stands in that number by its place.
-use Rattle.std.proofs.Common.{◌≡◌, ℕ, zero, suc, ◌+◌, ◌-◌, ◌*◌, ◌/◌, ◌%◌, ◌^◌, ◌<◌, ◌≤◌, Bool, ◌&&◌, eqb, List, [], ◌∷◌, ℤ, sym, refl, ap, ◌∙◌, add-zero, mul_assoc, mul-pos, zero-mul, arith}
+use Rattle.std.proofs.Common.{◌≡◌, ℕ, zero, suc, ◌+◌, ◌-◌, ◌*◌, ◌/◌, ◌%◌, ◌^◌, ◌<◌, ◌≤◌, Bool, ◌&&◌, eqb, List, [], ◌∷◌, sym, refl, ap, ◌∙◌, add-zero, mul_assoc, mul-pos, zero-mul, arith}
 use native.Mathlib.Nat.{mul-mod_left}
 use Rattle.std.proofs.lemmas.Nat.{pow-add, pow_pos, mod-pow-add, mod_below, shl-shr, shr-shr, field_of, mod_low}
 use Rattle.std.proofs.lemmas.Bool.{ne_eqb}
@@ -7,7 +7,6 @@ use Rattle.journal.specs.Bits.{width, numbers_in}
 use Rattle.journal.specs.Cursor.{first, behind, take_all, behind_all}
 use Rattle.journal.specs.Fields.{told, in_range}
 use Rattle.journal.specs.declared.field.Field.{Field}
-use Rattle.journal.specs.declared.bits.Unpacking.{Unpacking}
 
 -- the k low bits of a number, at the head of h
 pub lifted : (n k h : ℕ) → k ≤ h → (n * 2 ^ (h - k)) % 2 ^ h ≡ (n % 2 ^ k) * 2 ^ (h - k)

@@ -1,9 +1,9 @@
 -- A number in a field's range is told by its bits, and bits by the number that they stand for.
-use Rattle.std.specs.Prelude.{◌≡◌, ℕ, suc, ◌+◌, ◌-◌, ◌*◌, ◌%◌, ◌^◌, ◌<◌, ◌≤◌, Bool, true, false, cond, ◌&&◌, ℤ, pos, negsuc, int_le, int_lt, nat_le, refl}
-use Rattle.std.proofs.Common.{sym, ap, ◌∙◌, arith, mod-eq_of_lt}
+use Rattle.std.specs.Prelude.{◌≡◌, ℕ, ◌+◌, ◌-◌, ◌*◌, ◌%◌, ◌^◌, ◌<◌, ◌≤◌, true, cond, ◌&&◌, ℤ, pos, negsuc, int_le, int_lt, nat_le}
+use Rattle.std.proofs.Common.{ap, ◌∙◌, arith, mod-eq_of_lt}
 use Rattle.method.specs.Refusals.{between}
 use Rattle.std.proofs.lemmas.Nat.{pow-add, pow_pos}
-use Rattle.std.proofs.lemmas.Bool.{leb-true, and_parts, cond_both, le-leb, lt-leb}
+use Rattle.std.proofs.lemmas.Bool.{leb-true, and_parts, cond_both, le-leb}
 use Rattle.std.proofs.lemmas.Bool.Decides.{nat_tests}
 use Rattle.journal.specs.Fields.{in_range, coded, told}
 use Rattle.journal.specs.Format.{stands}

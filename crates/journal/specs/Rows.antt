@@ -1,15 +1,14 @@
 -- Fields in a row of bits: put behind one another they are one number, and taken off it they are the same again.
-use Rattle.std.specs.Prelude.{◌≡◌, ℕ, zero, suc, ◌+◌, ◌-◌, ◌*◌, ◌/◌, ◌%◌, ◌^◌, ◌<◌, ◌≤◌, Bool, true, false, ◌&&◌, List, [], ◌∷◌, length, ℤ, pos, refl}
+use Rattle.std.specs.Prelude.{◌≡◌, ℕ, suc, ◌+◌, ◌-◌, ◌*◌, ◌/◌, ◌%◌, ◌^◌, ◌<◌, ◌≤◌, Bool, true, false, ◌&&◌, List, [], ◌∷◌, length, ℤ, refl}
 use Rattle.std.proofs.Common.{sym, ap, ◌∙◌, arith, add-zero, zero-add, add_assoc, add-mul, mul_assoc, zero-mul}
 use Rattle.std.proofs.Math.Arith.{digits_lt}
 use Rattle.std.proofs.lemmas.Nat.{pow-add, shl_whole, shl_below, shl-shr, shr_split, shr_high, mod_low, mod_below}
 use Rattle.std.proofs.lemmas.Bool.{and_parts}
-use Rattle.journal.specs.Bits.{packed_after, width, numbers_in}
+use Rattle.journal.specs.Bits.{packed_after, width}
 use Rattle.journal.specs.Cursor.{put, put_all, first, behind, take_all, behind_all}
 use Rattle.journal.specs.Fields.{in_range, all_in_range, coded, told}
 use Rattle.journal.specs.Format.{stands, all_stand}
 use Rattle.journal.specs.declared.field.Field.{Field}
-use Rattle.journal.specs.declared.bits.Packing.{Packing}
 use Rattle.journal.specs.declared.bits.Unpacking.{Unpacking}
 use Rattle.journal.specs.Shifts.{shifted, coded_lt, first_below}
 use Rattle.journal.specs.Codings.{stands_so, told_coded, coded_told}

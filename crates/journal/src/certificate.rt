@@ -1,7 +1,7 @@
 // The certificate: how a verification ended.
 ghost use Rattle.journal.specs.Kinds.{certificate, earned};
 ghost use Rattle.std.specs.Prelude.{◌≡◌};
-ghost use Rattle.std.proofs.Common.{rules};
+ghost use Rattle.journal.specs.Sounds.{certificate_sound};
 
 use crate::bits::{Packing, Unpacking};
 use crate::codes::{verdict_code, verdict_of};
@@ -40,7 +40,7 @@ impl RecordKind for Certificate {
 
     ghost format = { certificate };
 
-    ghost sound = { Prim.search rules };
+    ghost sound = { certificate_sound };
 
     fn head() -> Head {
         Head::new(Self::NUMBER, Self::LENGTH)

@@ -1,6 +1,6 @@
 // The notice: which signal of the manual stage failed.
 ghost use Rattle.journal.specs.Kinds.{notice};
-ghost use Rattle.std.proofs.Common.{rules};
+ghost use Rattle.journal.specs.Sounds.{notice_sound};
 
 use crate::bits::{Packing, Unpacking};
 use crate::codes::Signal;
@@ -23,7 +23,7 @@ impl RecordKind for Notice {
 
     ghost format = { notice };
 
-    ghost sound = { Prim.search rules };
+    ghost sound = { notice_sound };
 
     fn head() -> Head {
         Head::new(Self::NUMBER, Self::LENGTH)

@@ -1,6 +1,6 @@
 // The three-step record: a point that a short attempt decided.
 ghost use Rattle.journal.specs.Kinds.{three_step};
-ghost use Rattle.std.proofs.Common.{rules};
+ghost use Rattle.journal.specs.Sounds.{three_step_sound};
 
 use crate::bits::{Packing, Unpacking};
 use crate::fields::{POINT, SETTLING_CODES, SUM, TOLERANCE};
@@ -25,7 +25,7 @@ impl RecordKind for ThreeStep {
 
     ghost format = { three_step };
 
-    ghost sound = { Prim.search rules };
+    ghost sound = { three_step_sound };
 
     fn head() -> Head {
         Head::new(Self::NUMBER, Self::LENGTH)

@@ -1,5 +1,5 @@
 -- Levels of the signal, and the errors of codes at them.
-use Rattle.std.specs.Prelude.{ℕ, ◌+◌, Bool, ℤ, pos, negsuc, ◌+ℤ◌, ◌-ℤ◌, ◌*ℤ◌}
+use Rattle.std.specs.Prelude.{◌+◌, Bool, ℤ, pos, negsuc, ◌+ℤ◌}
 use Rattle.method.specs.Meaning.{Meaning}
 use Rattle.method.specs.Refusals.{between}
 use Rattle.control.specs.Prospects.{soonest_fit}

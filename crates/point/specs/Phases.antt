@@ -1,5 +1,5 @@
 -- A point, code by code.
-use Rattle.std.specs.Prelude.{ℕ, ◌+◌, Bool, ℤ, Some, None, Option}
+use Rattle.std.specs.Prelude.{◌+◌, Bool, ℤ, Some, None, Option}
 use Rattle.method.specs.Meaning.{Meaning}
 use Rattle.method.specs.declared.verdict.Verdict.{Verdict}
 use Rattle.control.specs.Settlings.{no_codes, settled_by, with_code}

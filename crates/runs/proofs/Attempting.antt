@@ -23,7 +23,7 @@ use Rattle.point.specs.declared.phase.Course.{Course}
 use Rattle.point.specs.declared.phase.Course.TheVariants.{Main, Short}
 use Rattle.point.specs.declared.phase.Outcome.{Outcome}
 use Rattle.point.specs.declared.phase.Phase.{Phase}
-use Rattle.point.specs.declared.phase.Phase.TheVariants.{Waiting, Settling, Observing, Decided}
+use Rattle.point.specs.declared.phase.Phase.TheVariants.{Observing, Decided}
 use Rattle.point.specs.declared.phase.Trial.{Trial}
 use Rattle.point.specs.declared.setting.Setting.{Setting}
 use Rattle.runs.specs.Judged.{Attempted, going, ended, attempted, ended_by, errors, first_attempt, last_attempt, observed, then_second}

@@ -1,5 +1,5 @@
 -- A closing into a buffer is one into a longer buffer, at a place further on.
-use Rattle.std.proofs.Common.{◌≡◌, ℕ, ◌+◌, Bool, true, cond, leb, length, Ok, Err, refl, ap, arith}
+use Rattle.std.proofs.Common.{◌≡◌, ℕ, ◌+◌, true, cond, leb, length, Ok, Err, refl, ap, arith}
 use Rattle.std.proofs.lemmas.Bool.Decides.{nat_tests}
 use Rattle.method.specs.declared.question.Question.TheVariants.{FitsBuffer, NotEnded}
 use Rattle.journal.specs.Journal.{record_bytes}

@@ -1,10 +1,9 @@
 -- The points that a list of calls has closed.
-use Rattle.std.proofs.Common.{◌≡◌, ℕ, ◌+◌, Bool, true, false, cond, List, [], ◌∷◌, ℤ, pos, is_ok, Some, None, Ok, Err, Option, Result, sym, refl, ap, ◌∙◌, add-zero, add_assoc, arith}
+use Rattle.std.proofs.Common.{◌≡◌, ℕ, ◌+◌, true, false, cond, List, [], ◌∷◌, ℤ, pos, is_ok, Some, None, Ok, Err, Option, Result, sym, refl, ap, ◌∙◌, add-zero, add_assoc, arith}
 use Rattle.std.proofs.lemmas.Bool.{cond_both, false≢true}
 use Rattle.method.specs.Meaning.{Meaning, Ranged}
 use Rattle.method.specs.declared.question.Question.{Question}
 use Rattle.method.specs.declared.question.Question.TheVariants.{CodeLegal, NotEnded}
-use Rattle.method.specs.declared.verdict.Verdict.{Verdict}
 use Rattle.point.specs.Levels.{legal_code}
 use Rattle.point.specs.Phases.{reached}
 use Rattle.point.specs.Settings.{as_given, setting_refusal}

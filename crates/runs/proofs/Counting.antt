@@ -1,6 +1,6 @@
 -- The codes that a list of calls has had accepted.
-use Rattle.std.proofs.Common.{◌≡◌, ℕ, ◌+◌, ◌<◌, ◌≤◌, Bool, true, false, cond, not, ◌&&◌, leb, List, [], ◌∷◌, ℤ, pos, is_some, is_ok, Some, None, Ok, Err, Option, Result, sym, refl, ap, ◌∙◌, subst, add-zero, add_assoc, arith, lit<, lit≤}
-use Rattle.std.proofs.lemmas.Bool.{and_parts, cond_both, false≢true, leb-false, not-true}
+use Rattle.std.proofs.Common.{◌≡◌, ℕ, ◌+◌, ◌<◌, ◌≤◌, Bool, true, false, cond, not, leb, List, [], ◌∷◌, ℤ, pos, is_some, is_ok, Some, None, Ok, Err, Option, Result, sym, refl, ap, ◌∙◌, add-zero, add_assoc, arith, lit<, lit≤}
+use Rattle.std.proofs.lemmas.Bool.{and_parts, cond_both, false≢true, not-true}
 use Rattle.std.proofs.lemmas.Bool.Decides.{nat_tests}
 use Rattle.method.specs.Meaning.{Meaning, Ranged}
 use Rattle.method.specs.declared.question.Question.{Question}
@@ -8,13 +8,13 @@ use Rattle.method.specs.declared.question.Question.TheVariants.{CodeLegal, NotEn
 use Rattle.method.specs.declared.verdict.Verdict.{Verdict}
 use Rattle.method.specs.declared.verdict.Verdict.TheVariants.{Fit, Unfit}
 use Rattle.control.specs.Attempts.{verdict_at}
-use Rattle.control.specs.Settlings.{agree, settled_by}
+use Rattle.control.specs.Settlings.{settled_by}
 use Rattle.control.specs.declared.codes.SettledBy.{SettledBy}
 use Rattle.control.specs.declared.codes.SettledBy.TheVariants.{Agreement, LastCode}
 use Rattle.point.specs.Bounds.{earlier, is_open, taken, taken_by}
 use Rattle.point.specs.Ends.{attempt_end, main_full}
 use Rattle.point.specs.Levels.{legal_code}
-use Rattle.point.specs.Phases.{belated, coded, goes_on, reached, settled_to}
+use Rattle.point.specs.Phases.{coded, goes_on, reached, settled_to}
 use Rattle.point.specs.Settings.{as_given, setting_refusal}
 use Rattle.point.specs.Trials.{begins, first_on, noted, noted_verdict, plan_of}
 use Rattle.point.specs.declared.phase.Before.{Before}
@@ -37,7 +37,7 @@ use Rattle.runs.specs.Laws.{Counts, TakesFew, TakesLegal, undecided}
 use Rattle.runs.specs.Runs.{answer_to, answers_to, came, step}
 use Rattle.runs.specs.declared.call.Call.{Call}
 use Rattle.runs.specs.declared.call.Call.TheVariants.{Open, Level, Code, Late, Close}
-use Rattle.verification.specs.Calls.{Reply, at_phase, belating, closed_at, closed_by, closing, coded_at, coded_to, coding, done, fresh, late_at, one_more, opened_at, opened_with, opening, refused}
+use Rattle.verification.specs.Calls.{Reply, closed_at, closed_by, coded_at, coded_to, done, fresh, late_at, one_more, opened_at, opened_with, opening, refused}
 use Rattle.verification.specs.Ordering.{ended}
 use Rattle.verification.specs.declared.closed.Closed.{Closed}
 use Rattle.verification.specs.declared.declared.Declared.{Declared}

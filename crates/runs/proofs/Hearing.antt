@@ -1,10 +1,9 @@
 -- What the calls of a list make of a verification they make of its open point.
-use Rattle.std.proofs.Common.{◌≡◌, ℕ, Bool, true, false, cond, not, ◌&&◌, ◌⊎◌, List, [], ◌∷◌, ◌++◌, ℤ, is_ok, Some, None, Ok, Err, Option, Result, sym, refl, ap, ◌∙◌, subst, inl, inr}
+use Rattle.std.proofs.Common.{◌≡◌, ℕ, Bool, true, false, cond, not, ◌⊎◌, List, [], ◌∷◌, ℤ, is_ok, Some, None, Ok, Err, Option, Result, sym, refl, ap, ◌∙◌, inl, inr}
 use Rattle.std.proofs.lemmas.Bool.{and_from, and_parts, cases_Bool, cond_both, false≢true, not-true}
 use Rattle.method.specs.Meaning.{Meaning, Ranged}
 use Rattle.method.specs.declared.question.Question.{Question}
 use Rattle.method.specs.declared.question.Question.TheVariants.{CodeLegal, NotEnded}
-use Rattle.method.specs.declared.verdict.Verdict.{Verdict}
 use Rattle.point.specs.Bounds.{is_open}
 use Rattle.point.specs.Levels.{legal_code}
 use Rattle.point.specs.Phases.{coded, opened, reached}
@@ -17,7 +16,6 @@ use Rattle.point.specs.declared.setting.Setting.{Setting}
 use Rattle.runs.proofs.Counting.{Small, begins_point, stays}
 use Rattle.runs.proofs.Judging.{heard, heard_all, judged_so, late_to}
 use Rattle.runs.specs.Answers.{closes, none_closed, opens}
-use Rattle.runs.specs.Judged.{judged}
 use Rattle.runs.specs.Laws.{JudgedByCodes, OpenedOnce, Since}
 use Rattle.runs.specs.Runs.{answer_to, answers_to, came, step}
 use Rattle.runs.specs.declared.call.Call.{Call}

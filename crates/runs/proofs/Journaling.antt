@@ -1,5 +1,5 @@
 -- A run that closes its points one behind another leaves their records as a journal.
-use Rattle.std.proofs.Common.{◌≡◌, ℕ, suc, ◌+◌, ◌<◌, ◌≤◌, Bool, true, false, cond, ◌&&◌, leb, List, [], ◌∷◌, ◌++◌, length, take, drop, is_ok, Some, None, Ok, Err, Option, sym, refl, ap, ◌∙◌, subst, arith}
+use Rattle.std.proofs.Common.{◌≡◌, ℕ, ◌+◌, ◌<◌, ◌≤◌, Bool, true, false, cond, ◌&&◌, leb, List, [], ◌∷◌, ◌++◌, length, take, drop, is_ok, Some, None, Ok, Err, Option, sym, refl, ap, ◌∙◌, subst, arith}
 use Rattle.std.proofs.lemmas.List.{length-append, length-drop, length-take}
 use Rattle.std.proofs.lemmas.Bool.{and_from, cond_both, leb-true, leb-false, or_parts}
 use Rattle.method.specs.Meaning.{Meaning, Ranged}
@@ -14,7 +14,7 @@ use Rattle.point.specs.declared.phase.Outcome.{Outcome}
 use Rattle.point.specs.declared.phase.Phase.{Phase}
 use Rattle.point.specs.declared.phase.Phase.TheVariants.{Waiting, Settling, Observing, Decided}
 use Rattle.runs.proofs.Fine.{Fine, step_fine}
-use Rattle.runs.specs.Journals.{ClosedBehind, RunJournalReadsBack, Journaled, WrittenAt, and_then, place_behind, record_closed, record_when, records_closed}
+use Rattle.runs.specs.Journals.{ClosedBehind, RunJournalReadsBack, WrittenAt, and_then, place_behind, record_closed, record_when, records_closed}
 use Rattle.runs.specs.Runs.{bytes_after, bytes_left, step}
 use Rattle.runs.specs.declared.call.Call.{Call}
 use Rattle.runs.specs.declared.call.Call.TheVariants.{Open, Level, Code, Late, Close}

@@ -1,10 +1,10 @@
 -- A point is judged by its codes alone: call by call it comes to what the method says of the whole list.
-use Rattle.std.proofs.Common.{◌≡◌, ℕ, suc, ◌+◌, Bool, true, false, cond, ◌&&◌, ◌||◌, leb, List, [], ◌∷◌, length, get_or, ℤ, pos, is_some, Some, None, Option, sym, refl, ap, ◌∙◌, add-one, arith}
+use Rattle.std.proofs.Common.{◌≡◌, ℕ, suc, ◌+◌, Bool, true, false, cond, ◌&&◌, ◌||◌, leb, List, [], ◌∷◌, length, get_or, ℤ, pos, is_some, Some, None, Option, refl, ap, ◌∙◌, add-one, arith}
 use Rattle.std.proofs.lemmas.Bool.{le-leb}
 use Rattle.method.specs.Meaning.{Meaning}
 use Rattle.method.specs.declared.verdict.Verdict.{Verdict}
 use Rattle.method.specs.declared.verdict.Verdict.TheVariants.{Fit, Unfit}
-use Rattle.control.specs.Settlings.{agree, settled_at, settled_by, with_code}
+use Rattle.control.specs.Settlings.{agree, settled_by, with_code}
 use Rattle.control.specs.Statistics.{dominant, quantity_verdict}
 use Rattle.control.specs.declared.codes.SettledBy.{SettledBy}
 use Rattle.control.specs.declared.codes.SettledBy.TheVariants.{Agreement, LastCode}

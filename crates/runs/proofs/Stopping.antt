@@ -1,11 +1,10 @@
 -- One list of calls under the two stop rules.
-use Rattle.std.proofs.Common.{◌≡◌, ℕ, ◌+◌, ◌<◌, ◌≤◌, Bool, true, false, cond, ◌&&◌, ◌||◌, eqb, ltb, leb, ◌⊎◌, List, [], ◌∷◌, ℤ, is_ok, Some, None, Ok, Err, Option, Result, sym, refl, ap, ◌∙◌, inl, inr, ⊎_elim, arith}
+use Rattle.std.proofs.Common.{◌≡◌, ℕ, ◌<◌, ◌≤◌, Bool, true, false, cond, ◌&&◌, ◌||◌, eqb, ltb, leb, ◌⊎◌, List, [], ◌∷◌, ℤ, is_ok, Some, None, Ok, Err, Option, Result, sym, refl, ap, ◌∙◌, inl, inr, arith}
 use Rattle.std.proofs.lemmas.Bool.{cases_Bool, cond_both, ltb-true, ne_eqb}
 use Rattle.method.specs.Meaning.{Meaning}
 use Rattle.method.specs.declared.question.Question.{Question}
 use Rattle.method.specs.declared.question.Question.TheVariants.{CodeLegal, NotEnded}
-use Rattle.method.specs.declared.verdict.Verdict.{Verdict}
-use Rattle.method.specs.declared.verdict.Verdict.TheVariants.{Fit, Unfit}
+use Rattle.method.specs.declared.verdict.Verdict.TheVariants.{Unfit}
 use Rattle.control.specs.Attempts.{fit_if}
 use Rattle.point.specs.Levels.{legal_code}
 use Rattle.point.specs.Phases.{reached}
@@ -22,7 +21,7 @@ use Rattle.runs.specs.Runs.{answer_to, answers_to, came, step}
 use Rattle.runs.specs.declared.answer.Answer.{Answer}
 use Rattle.runs.specs.declared.call.Call.{Call}
 use Rattle.runs.specs.declared.call.Call.TheVariants.{Open, Level, Code, Late, Close}
-use Rattle.verification.specs.Calls.{Reply, closed_at, closed_by, coded_at, coded_to, done, fresh, late_at, one_more, opened_at, opened_with, refused, unfit_one}
+use Rattle.verification.specs.Calls.{Reply, closed_at, closed_by, coded_at, coded_to, done, fresh, late_at, one_more, opened_at, opened_with, refused}
 use Rattle.verification.specs.Certificates.{instrument_verdict}
 use Rattle.verification.specs.Ordering.{ended}
 use Rattle.verification.specs.declared.declared.Declared.{Declared}

@@ -1,11 +1,11 @@
 -- Worked examples: what the method says of a list of calls. P is 100 and E is 20 tenths, the agreement one step.
-use Rattle.std.specs.Prelude.{◌≡◌, ℕ, Bool, true, false, List, [], ◌∷◌, ◌++◌, replicate, ℤ, pos, negsuc, Some, None}
+use Rattle.std.specs.Prelude.{◌≡◌, ℕ, true, false, List, [], ◌∷◌, ◌++◌, replicate, ℤ, pos, negsuc, Some, None}
 use Rattle.method.specs.Meaning.{Meaning}
 use Rattle.method.specs.Plans.{normal_control, strengthened_control, three_step}
 use Rattle.method.specs.declared.verdict.Verdict.TheVariants.{Fit, Unfit}
 use Rattle.point.specs.Bounds.{trial_of}
 use Rattle.point.specs.Phases.{reached}
-use Rattle.point.specs.declared.phase.Before.TheVariants.{Nothing, SequenceAlone, ShortUnfit}
+use Rattle.point.specs.declared.phase.Before.TheVariants.{SequenceAlone, ShortUnfit}
 use Rattle.point.specs.declared.phase.Carried.{Carried}
 use Rattle.point.specs.declared.phase.Control.TheVariants.{Full, Reduced}
 use Rattle.point.specs.declared.phase.Course.TheVariants.{Main, Short}

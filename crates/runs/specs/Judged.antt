@@ -1,5 +1,5 @@
 -- A point is judged by its codes alone: what the method says of the whole list of calls since its opening.
-use Rattle.std.specs.Prelude.{ℕ, ◌+◌, Bool, true, false, cond, ◌||◌, List, [], ◌∷◌, length, take, drop, ℤ, pos, Some, None, Option, nat_le, slice_index_or}
+use Rattle.std.specs.Prelude.{ℕ, ◌+◌, Bool, false, cond, ◌||◌, List, [], ◌∷◌, length, take, drop, ℤ, pos, Some, None, Option, nat_le, slice_index_or}
 use Rattle.method.specs.Meaning.{Meaning}
 use Rattle.method.specs.declared.verdict.Verdict.{Verdict}
 use Rattle.control.specs.Sequences.{sequence_end}

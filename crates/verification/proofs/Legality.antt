@@ -1,5 +1,5 @@
 -- The fields of a decided point's record are in their ranges.
-use Rattle.std.proofs.Common.{◌≡◌, ℕ, ◌*◌, ◌≤◌, Bool, true, false, ◌&&◌, ℤ, pos, negsuc, nat_abs, Some, None, Option, refl, arith}
+use Rattle.std.proofs.Common.{◌≡◌, ℕ, ◌*◌, ◌≤◌, Bool, true, false, ℤ, pos, negsuc, nat_abs, Some, None, Option, refl, arith}
 use lib.Signed.{le_z}
 use Rattle.std.proofs.lemmas.Int.{ints}
 use Rattle.std.proofs.lemmas.Bool.{and_from}
@@ -9,7 +9,6 @@ use Rattle.method.specs.declared.verdict.Verdict.{Verdict}
 use Rattle.method.specs.declared.verdict.Verdict.TheVariants.{Fit, Unfit}
 use Rattle.journal.specs.Codes.{first_code, flag_code, quantity_code, verdict_code}
 use Rattle.journal.specs.Format.{legal}
-use Rattle.journal.specs.Journal.{legal_record}
 use Rattle.journal.specs.Kinds.{sequence, three_step}
 use Rattle.point.specs.Bounds.{Within}
 use Rattle.point.specs.declared.phase.Before.{Before}

@@ -1,5 +1,5 @@
 -- What each call answers, and how far the verification is then.
-use Rattle.std.specs.Prelude.{ℕ, ◌+◌, Bool, true, false, cond, leb, List, length, ℤ, Some, None, Ok, Err, Option, Result}
+use Rattle.std.specs.Prelude.{ℕ, ◌+◌, true, false, cond, List, length, ℤ, Some, None, Ok, Err, Option, Result}
 use Rattle.method.specs.Meaning.{Meaning}
 use Rattle.method.specs.declared.question.Question.{Question}
 use Rattle.method.specs.declared.question.Question.TheVariants.{NotEnded, NoPointOpen, PointOpen, Undecided, CodeLegal, StillSettling, Decided as AskDecided}

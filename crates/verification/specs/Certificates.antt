@@ -1,5 +1,5 @@
 -- The certificate of a verification that has ended.
-use Rattle.std.specs.Prelude.{ℕ, Bool, true, cond, ◌&&◌, List, length, pos, Ok, Err, Result, ◌==◌}
+use Rattle.std.specs.Prelude.{ℕ, true, cond, ◌&&◌, List, length, pos, Ok, Err, Result, ◌==◌}
 use Rattle.method.specs.declared.question.Question.{Question}
 use Rattle.method.specs.declared.question.Question.TheVariants.{Ended}
 use Rattle.method.specs.declared.verdict.Verdict.{Verdict}

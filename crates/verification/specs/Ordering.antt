@@ -1,6 +1,5 @@
 -- Orders, and when a verification has ended.
-use Rattle.std.specs.Prelude.{ℕ, Bool, false, cond, ◌&&◌, ◌||◌, ℤ, pos, None, Option, nat_le, nat_lt, unsigned_abs}
-use Rattle.std.specs.Int.Signed.{le_z}
+use Rattle.std.specs.Prelude.{ℕ, Bool, false, cond, ◌||◌, ℤ, pos, None, Option, nat_le, nat_lt, unsigned_abs}
 use Rattle.method.specs.Refusals.{asks, between}
 use Rattle.method.specs.declared.question.Question.{Question}
 use Rattle.method.specs.declared.question.Question.TheVariants.{PointsInRange, ControlKindKnown, StopRuleKnown}

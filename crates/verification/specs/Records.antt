@@ -1,5 +1,5 @@
 -- The record of a decided point.
-use Rattle.std.specs.Prelude.{ℕ, ◌+◌, pos, Some, None, Option}
+use Rattle.std.specs.Prelude.{ℕ, pos, Some, None, Option}
 use Rattle.method.specs.declared.verdict.Verdict.{Verdict}
 use Rattle.method.specs.declared.verdict.Verdict.TheVariants.{Fit, Unfit}
 use Rattle.journal.specs.declared.codes.FirstAttempt.{FirstAttempt}

@@ -9,6 +9,6 @@ pub returns : goal.returns
 returns c =
     let f : SFits w32 c.args.level.tenths = search rules in
     let e = to_z-of_z w32 c.args.level.tenths f in
-    IfOk-weaker c.push-spaced-2.result _ _
-    (λ x g. joined (alike (ap spaced_signed e) c.in-ok-push-spaced-signed.ensures) (joined c.in-ok-push-spaced.ensures g))
-    c.push-spaced-2.ensures
+    IfOk-weaker c.push_spaced-2.result _ _
+    (λ x g. joined (alike (ap spaced_signed e) c.in_ok-push_spaced_signed.ensures) (joined c.in_ok-push_spaced.ensures g))
+    c.push_spaced-2.ensures

@@ -9,8 +9,8 @@ pub returns : goal.returns
 returns c =
     let f : SFits w32 c.args.norms.accept = search rules in
     let h : SFits w32 c.args.norms.offset = search rules in
-    IfOk-weaker c.push-spaced-signed-2.result _ _
+    IfOk-weaker c.push_spaced_signed-2.result _ _
     (λ x g.
-    joined (alike (ap spaced_signed (to_z-of_z w32 c.args.norms.accept f)) c.in-ok-push-spaced-signed.ensures)
-    (joined c.in-ok-push-spaced.ensures (alike (ap spaced_signed (to_z-of_z w32 c.args.norms.offset h)) g)))
-    c.push-spaced-signed-2.ensures
+    joined (alike (ap spaced_signed (to_z-of_z w32 c.args.norms.accept f)) c.in_ok-push_spaced_signed.ensures)
+    (joined c.in_ok-push_spaced.ensures (alike (ap spaced_signed (to_z-of_z w32 c.args.norms.offset h)) g)))
+    c.push_spaced_signed-2.ensures

@@ -3,4 +3,4 @@ use Rattle.console.proofs.Spelling.{joined}
 use Rattle.commands.proofs.reply_text.push_run.Goals as goal
 
 pub returns : goal.returns
-returns c = IfOk-weaker c.push-state.result _ _ (λ x g. joined c.in-ok-push-spaced.ensures g) c.push-state.ensures
+returns c = IfOk-weaker c.push_state.result _ _ (λ x g. joined c.in_ok-push_spaced.ensures g) c.push_state.ensures

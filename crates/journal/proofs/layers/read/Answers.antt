@@ -4,18 +4,18 @@ use Rattle.journal.proofs.Formats.{decoded_by_cursor}
 use Rattle.journal.specs.Rows.{flagged}
 use Rattle.journal.proofs.layers.read.Goals as goal
 
-pub returns-in-err-bits : goal.returns-in-err-bits
-returns-in-err-bits g c =
+pub returns-in_err-bits : goal.returns-in_err-bits
+returns-in_err-bits g c =
     let is = decoded_by_cursor g.K.RecordKind.format g.met.K.RecordKind.sound c.args.place c.args.bytes.now in
     search rules
 
-pub returns-in-err-fields : goal.returns-in-err-fields
-returns-in-err-fields g c =
+pub returns-in_err-fields : goal.returns-in_err-fields
+returns-in_err-fields g c =
     let is = decoded_by_cursor g.K.RecordKind.format g.met.K.RecordKind.sound c.args.place c.args.bytes.now in
     search rules
 
-pub returns-in-err-in-range : goal.returns-in-err-in-range
-returns-in-err-in-range g c =
+pub returns-in_err-in_range : goal.returns-in_err-in_range
+returns-in_err-in_range g c =
     let m = g.K.RecordKind.format in
     let is = decoded_by_cursor m g.met.K.RecordKind.sound c.args.place c.args.bytes.now in
     let asked = flagged m.fields (headed m c.args.bytes.now) in

@@ -1,21 +1,21 @@
-use Rattle.std.proofs.Common.{◌≡◌, ℕ, ◌+◌, ◌<◌, ◌≤◌, length, get_or, Some, None, Ok, Err, sym, refl, ap, ◌∙◌, subst, arith, rules}
+use Rattle.std.proofs.Common.{◌≡◌, ℕ, ◌+◌, ◌≤◌, length, Some, None, Ok, Err, sym, refl, ap, ◌∙◌, subst, arith}
 use Rattle.std.proofs.lemmas.Result.{err_from_is_err_and}
-use Rattle.journal.specs.Journal.{next_of, record_bytes, journal_bytes, span, count}
+use Rattle.journal.specs.Journal.{next_of, journal_bytes, span, count}
 use Rattle.journal.specs.Reading.{Bytes}
 use Rattle.journal.specs.declared.record.Extent.{Extent}
 use Rattle.journal.proofs.Journals.{Read, read_more, read_holds, read_stops, read_all, read_no_fault, end_at, journal_laws}
 use Rattle.journal.proofs.records.read_through.Goals as goal
 
-pub returns-in-err-next : goal.returns-in-err-next
-returns-in-err-next c =
+pub returns-in_err-next : goal.returns-in_err-next
+returns-in_err-next c =
     let bs = c.args.journal.now in
     let p = c.loop.reader.position in
     let n = c.loop.reader.records in
     let old = c.loop.invariant.1 in
-    let d = c.in-err-next.field-0.0 in
-    let is : next_of bs p n ≡ Err d = ap (λ x. next_of x p n) (sym c.loop.invariant.0) ∙ sym c.next.ensures.answer ∙ c.in-err-next.was in
+    let d = c.in_err-next.field-0.0 in
+    let is : next_of bs p n ≡ Err d = ap (λ x. next_of x p n) (sym c.loop.invariant.0) ∙ sym c.next.ensures.answer ∙ c.in_err-next.was in
     let le : p ≤ length bs = omega (arith, c.loop.reader.within, ap length c.loop.invariant.0) in
-    let e = err_from_is_err_and c.from-residual.result c.from-residual.ensures.1 in
+    let e = err_from_is_err_and c.from_residual.result c.from_residual.ensures.1 in
     record {
       through = rw (e.1, e.2) (old.rs, read_stops bs p n old d is);
       exactly = λ rs h q. absurd (read_no_fault bs p n old le d is rs h q);
@@ -28,8 +28,8 @@ loop-preserved c =
     let p = c.loop.reader.position in
     let n = c.loop.reader.records in
     let q = c.in-Some.field-0 in
-    let small : Bytes bs = λ i. omega (arith, c.type-inv.journal i) in
-    let result : c.next.result ≡ Ok (Some q) = c.in-ok-next.was ∙ ap Ok c.in-Some.is in
+    let small : Bytes bs = λ i. omega (arith, c.type_inv.journal i) in
+    let result : c.next.result ≡ Ok (Some q) = c.in_ok-next.was ∙ ap Ok c.in-Some.is in
     let is : next_of bs p n ≡ Ok (Some q) = ap (λ x. next_of x p n) (sym c.loop.invariant.0) ∙ sym c.next.ensures.answer ∙ result in
     let far = c.next.ensures.moves ∙ ap (λ x. p + span x) result in
     let many = c.next.ensures.counts ∙ ap (λ x. n + count x) result in
@@ -41,7 +41,7 @@ returns c =
     let p = c.loop.reader.position in
     let n = c.loop.reader.records in
     let old = c.loop.invariant.1 in
-    let result : c.next.result ≡ Ok None = c.in-ok-next.was ∙ ap Ok c.in-default.is in
+    let result : c.next.result ≡ Ok None = c.in_ok-next.was ∙ ap Ok c.in_default.is in
     let is : next_of bs p n ≡ Ok None = ap (λ x. next_of x p n) (sym c.loop.invariant.0) ∙ sym c.next.ensures.answer ∙ result in
     let le : p ≤ length bs = omega (arith, c.loop.reader.within, ap length c.loop.invariant.0) in
     let here : c.next.new.self.position ≡ p = c.next.ensures.moves ∙ ap (λ x. p + span x) result ∙ (let z : p + 0 ≡ p = omega arith in z) in

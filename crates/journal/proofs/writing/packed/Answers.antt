@@ -1,4 +1,4 @@
-use Rattle.std.proofs.Common.{◌≡◌, ◌<◌, pos, ap, ◌∙◌, arith, w32, rules}
+use Rattle.std.proofs.Common.{◌<◌, pos, ap, ◌∙◌, arith, w32, rules}
 use Rattle.std.proofs.lemmas.Int.{to_z_pos}
 use Rattle.journal.proofs.Formats.{packing}
 use Rattle.journal.proofs.writing.packed.Goals as goal

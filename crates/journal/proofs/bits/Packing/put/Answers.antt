@@ -4,12 +4,12 @@ use Rattle.journal.specs.Shifts.{code_lt, put_below}
 use Rattle.journal.proofs.Steps.{put_is}
 use Rattle.journal.proofs.bits.Packing.put.Goals as goal
 
-pub overflow-add-self : goal.overflow-add-self
-overflow-add-self c =
+pub overflow_add-self : goal.overflow_add-self
+overflow_add-self c =
     let w = c.args.field.width in
     let lt : c.code.result < 2 ^ w = code_lt w _ c.code.result c.code.ensures in
     omega (arith, put_below c.args.self.now.word c.code.result w (omega arith) lt)
 
 pub returns : goal.returns
 returns c =
-    put_is c.args.field c.args.number _ c.args.self.now c.code.result c.saturating-sub-self.result c.holds.result (to_z-of_z w32 c.args.number c.ranges.number) c.code.ensures c.saturating-sub-self.ensures c.holds.ensures
+    put_is c.args.field c.args.number _ c.args.self.now c.code.result c.saturating_sub-self.result c.holds.result (to_z-of_z w32 c.args.number c.ranges.number) c.code.ensures c.saturating_sub-self.ensures c.holds.ensures

@@ -4,8 +4,8 @@ use Rattle.journal.specs.Shifts.{first_below, first_fits}
 use Rattle.journal.proofs.Steps.{first_is, behind_is}
 use Rattle.journal.proofs.bits.Unpacking.take.Goals as goal
 
-pub overflow-cast-self : goal.overflow-cast-self
-overflow-cast-self c =
+pub overflow_cast-self : goal.overflow_cast-self
+overflow_cast-self c =
     let small : c.args.self.now.word < 2 ^ 128 = search rules in
     omega (arith, first_fits c.args.self.now.word c.args.field.width c.requires.narrow small)
 

@@ -7,11 +7,11 @@ returns-in-Ok g c =
     let p = c.args.self.now.progress in
     let d = c.args.self.now.declared in
     let o = c.in-Decided.outcome in
-    let going = sym c.has-ended.ensures ∙ c.if-has-ended.false in
+    let going = sym c.has_ended.ensures ∙ c.if-has_ended.false in
     let e = closing_is d p o going c.in-Decided.is c.args.place (length c.args.journal.now) _ c.in-Ok.ensures.answer in
     record {
       answer = ap (λ r. r.answer) (sym e);
-      after = c.one-closed-self.ensures ∙ ap (λ r. r.after) (sym e);
+      after = c.one_closed-self.ensures ∙ ap (λ r. r.after) (sym e);
       bytes = c.in-Ok.ensures.bytes ∙ sym (closing_bytes_is d p o going c.in-Decided.is c.args.place c.args.journal.now);
       declared = search rules;
       main = search rules;
@@ -23,7 +23,7 @@ returns-in-Err g c =
     let p = c.args.self.now.progress in
     let d = c.args.self.now.declared in
     let o = c.in-Decided.outcome in
-    let going = sym c.has-ended.ensures ∙ c.if-has-ended.false in
+    let going = sym c.has_ended.ensures ∙ c.if-has_ended.false in
     let e = closing_is d p o going c.in-Decided.is c.args.place (length c.args.journal.now) _ c.in-Err.ensures.answer in
     record {
       answer = ap (λ r. r.answer) (sym e);
