@@ -24,7 +24,7 @@ ok .., refused NUMBER, misuse or syntax. Blank lines and lines that begin with #
   bytes PLACE HEX                                overwrites bytes of the journal
   write PLACE KIND FIELD ..                      writes a record into the journal
 
-PLAN is strengthened, normal, three_step, line_strengthened, line_normal,
+PLAN is strengthened, normal, three-step, line-strengthened, line-normal,
   tabled CUT CUTNUMBER MARGIN KT KU PEAK FROM:ACCEPT:REJECT ..
   or truncated CUT CUTNUMBER PLAN
 ";
