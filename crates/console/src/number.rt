@@ -2,7 +2,7 @@
 ghost use Rattle.console.specs.Grammar.{Took};
 ghost use Rattle.console.specs.Words.{left};
 ghost use Rattle.std.specs.Prelude.{◌≡◌, ◌+◌, ◌-◌, ◌*◌, ◌≤◌, min, true, length, pos, neg_ℤ, IfSome};
-ghost use Rattle.console.specs.Numbers.{digit, largest, numeral, starts_minus, unsigned};
+ghost use Rattle.console.specs.Numbers.{digit, digits, largest, numeral, saturated_value, starts_minus, unsigned};
 ghost use Rattle.std.specs.Option.{option_map};
 
 use crate::words::Words;
@@ -16,6 +16,17 @@ fn is_digit(b: u8) -> bool
     b'0' <= b && b <= b'9'
 }
 
+fn are_digits(word: &[u8]) -> bool
+    ensures { result ≡ digits word.now }
+{
+    for b in word {
+        if !is_digit(*b) {
+            return false;
+        }
+    }
+    true
+}
+
 // One digit more of a number that is at most the largest.
 fn with_digit(n: u32, b: u8) -> u32
     requires { n ≤ largest }
@@ -26,22 +37,27 @@ fn with_digit(n: u32, b: u8) -> u32
     longer.min(LARGEST) as u32
 }
 
+// The number that digits write.
+fn value_of(word: &[u8]) -> u32
+    ensures is { result ≡ saturated_value word.now }
+    ensures small { result ≤ largest }
+{
+    let mut n = 0;
+    for b in word {
+        n = with_digit(n, *b);
+    }
+    n
+}
+
 // The number that a word of digits writes.
 fn parse_digits(word: &[u8]) -> Option<u32>
     ensures is { result ≡ unsigned word.now }
     ensures small { IfSome result (λ n. n ≤ largest) }
 {
-    if word.is_empty() {
+    if word.is_empty() || !are_digits(word) {
         return None;
     }
-    let mut n = 0;
-    for b in word {
-        if !is_digit(*b) {
-            return None;
-        }
-        n = with_digit(n, *b);
-    }
-    Some(n)
+    Some(value_of(word))
 }
 
 fn is_negative(word: &[u8]) -> bool
