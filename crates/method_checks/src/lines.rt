@@ -167,3 +167,13 @@ fn three_step_control(rt: HostRuntime) {
         (8_000, 8_000)
     );
 }
+
+// A plan is cloned without memory.
+#[test]
+fn a_truncation_is_cloned(rt: HostRuntime) {
+    let cloned = match Truncated::normal().clone() {
+        Ok(plan) => Some((plan.cut(), plan.cut_number())),
+        Err(_) => None,
+    };
+    assert_eq!(rt; cloned, Some((40, 4)));
+}
