@@ -1,5 +1,5 @@
 -- The text of each answer.
-use Rattle.std.specs.Prelude.{ℕ, List, [], ◌∷◌, ◌++◌, ℤ, codes, decimal}
+use Rattle.std.specs.Prelude.{ℕ, Bool, true, false, List, [], ◌∷◌, ◌++◌, ℤ, codes, decimal}
 use Rattle.std.specs.Fmt.{signed_decimal}
 use Rattle.method.specs.Questions.{number_of}
 use Rattle.method.specs.declared.verdict.Verdict.{Verdict}
@@ -90,3 +90,19 @@ values_text reply.Syntax = []
 
 abbrev pub reply_text : Reply → List ℕ
 reply_text r = opening_words r ++ values_text r
+
+-- whether an answer is kept as a line: those that are always the same and come most often
+abbrev pub is_kept : Reply → Bool
+is_kept reply.Done = true
+is_kept (reply.Notice s) = false
+is_kept (reply.Length n) = false
+is_kept (reply.Numbers p) = false
+is_kept (reply.Norms n) = false
+is_kept (reply.Level l) = false
+is_kept reply.Undecided = true
+is_kept (reply.Decided v) = true
+is_kept (reply.Closed v n) = false
+is_kept (reply.Audited first all) = false
+is_kept (reply.Refused q) = false
+is_kept reply.Misuse = false
+is_kept reply.Syntax = false

@@ -1,7 +1,7 @@
 // The text of each answer.
-ghost use Rattle.commands.specs.Replies.{audit_text, closed_text, level_text, norms_text, numbers_text, opening_words, reply_text, run_text, signal_number, spaced, spaced_signed, state_text, values_text, verdict_text};
+ghost use Rattle.commands.specs.Replies.{audit_text, closed_text, is_kept, level_text, norms_text, numbers_text, opening_words, reply_text, run_text, signal_number, spaced, spaced_signed, state_text, values_text, verdict_text};
 ghost use Rattle.console.specs.Texts.{Grown};
-ghost use Rattle.std.specs.Prelude.{◌≡◌, [], ◌∷◌, ◌++◌, take, IfSome, OnOk};
+ghost use Rattle.std.specs.Prelude.{◌≡◌, [], ◌∷◌, ◌++◌, take, is_some, IfSome, OnOk};
 
 use crate::reply::{FixedLine, Norms, PlanNumbers, Reply, Run, State};
 use console::{push_bytes, push_natural, push_signed};
@@ -140,9 +140,10 @@ pub fn push_reply(text: &mut Vec<u8>, reply: &Reply) -> Result<(), AllocError>
     push_values(text, reply)
 }
 
-// The line of an answer that is always the same.
+// The line of an answer that is always the same, for those that come most often.
 pub fn fixed_line(reply: &Reply) -> Option<FixedLine>
-    ensures { IfSome result (λ l. take l.length l.bytes ≡ reply_text reply.now ++ (10 ∷ [])) }
+    ensures kept { is_some result ≡ is_kept reply.now }
+    ensures line { IfSome result (λ l. take l.length l.bytes ≡ reply_text reply.now ++ (10 ∷ [])) }
 {
     match *reply {
         Reply::Undecided => Some(FixedLine {
