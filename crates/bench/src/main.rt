@@ -1,11 +1,13 @@
 // Drives a verification by commands from standard input, one to a line, and answers each with a line.
 #![tactic(auto)]
 
+mod automatic;
+mod denied;
 mod help;
-mod hex;
+mod hexadecimal;
 mod lines;
-mod output;
 mod record_text;
+mod record_words;
 mod session;
 mod stage;
 
@@ -15,12 +17,11 @@ use std::{env, io};
 
 // Whether the first word behind the program's name is `help`.
 fn is_help_wanted(rt: &HostRuntime) -> io::Result<bool> {
-    let mut words = env::args(rt)?;
-    let _ = words.next();
-    match words.next() {
-        Some(word) => Ok(word.as_str() == "help"),
-        None => Ok(false),
-    }
+    Ok(
+        env::args(rt)?
+            .nth(1)
+            .is_some_and(|word| word.as_str() == "help"),
+    )
 }
 
 fn main(rt: HostRuntime) -> io::Result<()> {

@@ -1,12 +1,11 @@
-// The stages of a verification, one at a time, and its calls.
+// The stages of a verification, one at a time.
+use crate::automatic::{Automatic, Ordered};
+use crate::denied::Denied;
 use commands::Reply;
-use console::ChosenPlan;
 use journal::Signal;
-use method::{Question, Verdict};
-use runs::Call;
-use verification::{Check, Inspection, Insulation, Notice, Ready, Trial, Verification};
-
-pub type Running = Verification<ChosenPlan, ChosenPlan>;
+use std::alloc::Global;
+use std::mem::replace;
+use verification::{Check, Inspection, Insulation, Notice, Orders, Ready, Trial};
 
 #[derive(Drop)]
 pub enum Stage {
@@ -16,7 +15,7 @@ pub enum Stage {
     Failed(Notice),
     Ready(Ready),
     // orders began the automatic stage
-    Automatic,
+    Automatic(Automatic),
 }
 
 impl Stage {
@@ -25,69 +24,74 @@ impl Stage {
         Stage::Inspection(Inspection::begin())
     }
 
-    // The stage after a manual signal, and the answer to it. Signals out of their order change nothing.
-    pub fn report(self, signal: Signal, check: Check) -> (Stage, Reply) {
-        match (self, signal) {
-            (Stage::Inspection(stage), Signal::Inspection) => match stage.report(check) {
-                Ok(next) => (Stage::Trial(next), Reply::Done),
-                Err(notice) => (Stage::Failed(notice), Reply::Notice(notice.failed)),
-            },
-            (Stage::Trial(stage), Signal::Trial) => match stage.report(check) {
-                Ok(next) => (Stage::Insulation(next), Reply::Done),
-                Err(notice) => (Stage::Failed(notice), Reply::Notice(notice.failed)),
-            },
-            (Stage::Insulation(stage), Signal::Insulation) => match stage.report(check) {
-                Ok(next) => (Stage::Ready(next), Reply::Done),
-                Err(notice) => (Stage::Failed(notice), Reply::Notice(notice.failed)),
-            },
-            (stage, _) => (stage, Reply::Misuse),
+    // Goes on to the stage that a step comes to, and answers as the step does.
+    pub fn pass<F: FnOnce(Stage) -> (Stage, Result<Reply, Denied>)>(
+        &mut self,
+        step: F,
+    ) -> Result<Reply, Denied>
+        requires { F.IsAlwaysCallable step }
+    {
+        let (stage, done) = step(replace(self, Stage::start()));
+        *self = stage;
+        done
+    }
+
+    // A manual signal. One out of its order changes nothing.
+    pub fn report(self, signal: Signal, check: Check) -> (Stage, Result<Reply, Denied>) {
+        let stage = match (self, signal) {
+            (Stage::Inspection(stage), Signal::Inspection) => stage
+                .report(check)
+                .map_or_else(Stage::Failed, Stage::Trial),
+            (Stage::Trial(stage), Signal::Trial) => stage
+                .report(check)
+                .map_or_else(Stage::Failed, Stage::Insulation),
+            (Stage::Insulation(stage), Signal::Insulation) => stage
+                .report(check)
+                .map_or_else(Stage::Failed, Stage::Ready),
+            (stage, _) => return (stage, Err(Denied::Misuse)),
+        };
+        let reply = match &stage {
+            Stage::Failed(notice) => Reply::Notice(notice.failed),
+            _ => Reply::Done,
+        };
+        (stage, Ok(reply))
+    }
+
+    // Orders begin the automatic stage. Those that are refused change nothing.
+    pub fn order(
+        self,
+        heap: Global,
+        ordered: Ordered,
+        rule: i32,
+    ) -> (Stage, Result<Reply, Denied>) {
+        let orders = Orders::new(ordered.points, ordered.control, rule);
+        match (self, orders) {
+            (Stage::Ready(ready), Ok(orders)) => {
+                let automatic = Automatic::start(heap, ready, orders, ordered);
+                (Stage::Automatic(automatic), Ok(Reply::Done))
+            }
+            (Stage::Ready(ready), Err(question)) => {
+                (Stage::Ready(ready), Err(Denied::Refused(question)))
+            }
+            (stage, _) => (stage, Err(Denied::Misuse)),
         }
     }
-}
 
-// The manual stage with its three signals passed, for a verification that is run anew.
-pub fn all_passed() -> Option<Ready> {
-    let Ok(trial) = Inspection::begin().report(Check::Passed) else {
-        return None;
-    };
-    let Ok(insulation) = trial.report(Check::Passed) else {
-        return None;
-    };
-    match insulation.report(Check::Passed) {
-        Ok(ready) => Some(ready),
-        Err(_) => None,
-    }
-}
-
-fn decision(answer: Result<Option<Verdict>, Question>) -> Reply {
-    match answer {
-        Ok(None) => Reply::Undecided,
-        Ok(Some(verdict)) => Reply::Decided(verdict),
-        Err(question) => Reply::Refused(question),
-    }
-}
-
-// The answer of a verification to a call.
-pub fn answer(running: &mut Running, call: Call, journal: &mut [u8]) -> Reply {
-    match call {
-        Call::Open {
-            signal,
-            meter,
-            reference,
-            agreement,
-        } => match running.open(signal, meter, reference, agreement) {
-            Ok(()) => Reply::Done,
-            Err(question) => Reply::Refused(question),
-        },
-        Call::Level => match running.level() {
-            Ok(level) => Reply::Level(level),
-            Err(question) => Reply::Refused(question),
-        },
-        Call::Code(code) => decision(running.code(code)),
-        Call::Late => decision(running.late()),
-        Call::Close(place) => match running.close(journal, place) {
-            Ok(closed) => Reply::Closed(closed.verdict, closed.length),
-            Err(question) => Reply::Refused(question),
-        },
+    // The certificate spends the verification, and the manual stage is at its start again.
+    pub fn certify(self, journal: &mut [u8], place: usize) -> (Stage, Result<Reply, Denied>) {
+        match self {
+            Stage::Automatic(automatic) => match automatic.certify(journal, place) {
+                Ok(written) => {
+                    (
+                        Stage::start(),
+                        Ok(Reply::Closed(written.verdict, written.length)),
+                    )
+                }
+                Err((question, automatic)) => {
+                    (Stage::Automatic(automatic), Err(Denied::Refused(question)))
+                }
+            },
+            stage => (stage, Err(Denied::Misuse)),
+        }
     }
 }

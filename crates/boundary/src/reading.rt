@@ -1,121 +1,47 @@
 // A journal's records as numbers.
-use crate::wire::Item;
+use crate::wire::{FIELDS, Item};
 use journal::{
-    CertificateFields, Fault, FirstAttempt, Layer, Placed, Quantity, Reader, Record,
-    SequenceFields, Signal, read_through,
+    Certificate, Fault, Layer, Notice, Placed, Reader, Record, RecordKind, Sequence, ThreeStep,
+    read_through,
 };
-use method::Verdict;
+use std::array::from_fn;
 
-fn flag_bit(flag: bool) -> i32 {
-    if flag { 1 } else { 0 }
+// The numbers of a record's fields, and 0 behind them.
+fn padded(numbers: &[i32]) -> [i32; FIELDS] {
+    from_fn(|i| numbers.get(i).copied().unwrap_or(0))
 }
 
-fn verdict_bit(verdict: Verdict) -> i32 {
-    match verdict {
-        Verdict::Fit => 1,
-        Verdict::Unfit => 0,
-    }
-}
-
-fn sequence(f: SequenceFields) -> [i32; 13] {
-    let first = match f.first_attempt {
-        FirstAttempt::Absent => 0,
-        FirstAttempt::SequenceAlone => 1,
-        FirstAttempt::QuantityAlone => 2,
-        FirstAttempt::ShortUnfit => 3,
-    };
-    let quantity = match f.quantity {
-        Quantity::NotAsked => 0,
-        Quantity::Fit => 1,
-        Quantity::Unfit => 2,
-    };
-    [
-        f.point,
-        first,
-        f.observations,
-        f.outs,
-        verdict_bit(f.sequence),
-        quantity,
-        flag_bit(f.wild),
-        flag_bit(f.dominance),
-        verdict_bit(f.verdict),
-        f.settling_codes,
-        f.tolerance,
-        f.sum,
-        f.squares,
-    ]
-}
-
-fn certificate(f: CertificateFields) -> [i32; 13] {
-    let verdict = verdict_bit(f.verdict);
-    [
-        f.declared,
-        f.closed,
-        f.unfit,
-        verdict,
-        f.codes_accepted,
-        0,
-        0,
-        0,
-        0,
-        0,
-        0,
-        0,
-        0,
-    ]
-}
-
-fn item(placed: Placed) -> Item {
-    let (kind, fields) = match placed.record {
-        Record::Sequence(f) => (1, sequence(f)),
-        Record::ThreeStep(f) => (
-            2,
-            [
-                f.point,
-                f.settling_codes,
-                f.tolerance,
-                f.sum,
-                0,
-                0,
-                0,
-                0,
-                0,
-                0,
-                0,
-                0,
-                0,
-            ],
-        ),
-        Record::Certificate(f) => (3, certificate(f)),
-        Record::Notice(f) => {
-            let failed = match f.failed {
-                Signal::Inspection => 1,
-                Signal::Trial => 2,
-                Signal::Insulation => 3,
-            };
-            (4, [failed, 0, 0, 0, 0, 0, 0, 0, 0, 0, 0, 0, 0])
+impl From<Placed> for Item {
+    fn from(placed: Placed) -> Item {
+        let (kind, fields) = match placed.record {
+            Record::Sequence(fields) => (Sequence::NUMBER, fields.numbers()),
+            Record::ThreeStep(fields) => (ThreeStep::NUMBER, padded(&fields.numbers())),
+            Record::Certificate(fields) => (Certificate::NUMBER, padded(&fields.numbers())),
+            Record::Notice(fields) => (Notice::NUMBER, padded(&fields.numbers())),
+        };
+        Item {
+            ordinal: placed.place.ordinal,
+            first_byte: placed.place.first_byte,
+            kind: u32::from(kind),
+            fields,
         }
-    };
-    Item {
-        ordinal: placed.place.ordinal,
-        first_byte: placed.place.first_byte,
-        kind,
-        fields,
     }
 }
 
-fn faulty(fault: Fault) -> Item {
-    let number = fault.question.number() as i32;
-    let layer = match fault.layer {
-        Layer::Kind => 1,
-        Layer::Bits => 2,
-        Layer::Field => 3,
-    };
-    Item {
-        ordinal: fault.place.ordinal,
-        first_byte: fault.place.first_byte,
-        kind: 0,
-        fields: [number, layer, 0, 0, 0, 0, 0, 0, 0, 0, 0, 0, 0],
+// The numbers of the layers are those of the C interface.
+impl From<Fault> for Item {
+    fn from(fault: Fault) -> Item {
+        let layer = match fault.layer {
+            Layer::Kind => 1,
+            Layer::Bits => 2,
+            Layer::Field => 3,
+        };
+        Item {
+            ordinal: fault.place.ordinal,
+            first_byte: fault.place.first_byte,
+            kind: 0,
+            fields: padded(&[i32::from(fault.question.number()), layer]),
+        }
     }
 }
 
@@ -123,28 +49,21 @@ fn faulty(fault: Fault) -> Item {
 #[unsafe(no_mangle)]
 pub extern "C" fn hemmertaupe_read(journal: &[u8], items: &mut [Item]) -> usize {
     let mut reader = Reader::new(journal);
-    let mut i = 0;
-    while i < items.len() {
+    for (i, item) in items.iter_mut().enumerate() {
         match reader.next() {
-            Ok(Some(placed)) => {
-                items[i] = item(placed);
-            }
+            Ok(Some(placed)) => *item = Item::from(placed),
             Ok(None) => return i,
             Err(fault) => {
-                items[i] = faulty(fault);
+                *item = Item::from(fault);
                 return i + 1;
             }
         }
-        i += 1;
     }
-    i
+    items.len()
 }
 
 // Reads a journal through, and answers how many records it has; the greatest number if there is a fault.
 #[unsafe(no_mangle)]
 pub extern "C" fn hemmertaupe_count(journal: &[u8]) -> usize {
-    match read_through(journal) {
-        Ok(extent) => extent.records,
-        Err(_) => usize::MAX,
-    }
+    read_through(journal).map_or(usize::MAX, |extent| extent.records)
 }

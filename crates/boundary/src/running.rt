@@ -3,134 +3,146 @@ use crate::plans::plan_of;
 use crate::wire::{Call, Reply};
 use console::ChosenPlan;
 use method::{Line, Plan, Question, ThreeStep, Truncated, Verdict};
+use point::Level;
 use std::mem::size_of;
-use verification::{Check, Inspection, Orders, Ready, Verification};
+use verification::{Inspection, Orders, Verification, Written};
 
 type Running = Verification<ChosenPlan, ChosenPlan>;
 
 type Standard = Verification<Truncated<Line>, ThreeStep>;
 
-fn plain(kind: u32) -> Reply {
-    Reply {
-        kind,
-        value: 0,
-        number: 0,
-        soonest: 0,
-        length: 0,
+// Kinds stay numbers: they are the C interface.
+impl From<Question> for Reply {
+    fn from(question: Question) -> Reply {
+        Reply {
+            number: u32::from(question.number()),
+            ..Reply::plain(0)
+        }
     }
 }
 
-fn refused(question: Question) -> Reply {
-    Reply {
-        kind: 0,
-        value: 0,
-        number: question.number() as u32,
-        soonest: 0,
-        length: 0,
+impl From<Level> for Reply {
+    fn from(level: Level) -> Reply {
+        Reply {
+            value: level.tenths,
+            number: level.observation.unwrap_or(0),
+            soonest: level.soonest.unwrap_or(0),
+            ..Reply::plain(2)
+        }
     }
 }
 
-fn written(verdict: Verdict, length: usize) -> Reply {
-    Reply {
-        kind: match verdict {
+impl From<Option<Verdict>> for Reply {
+    fn from(decision: Option<Verdict>) -> Reply {
+        Reply::plain(match decision {
+            None => 3,
+            Some(Verdict::Fit) => 4,
+            Some(Verdict::Unfit) => 5,
+        })
+    }
+}
+
+impl From<Written> for Reply {
+    fn from(written: Written) -> Reply {
+        let kind = match written.verdict {
             Verdict::Fit => 6,
             Verdict::Unfit => 7,
-        },
-        value: 0,
-        number: 0,
-        soonest: 0,
-        length,
-    }
-}
-
-fn decision(answer: Result<Option<Verdict>, Question>) -> Reply {
-    match answer {
-        Ok(None) => plain(3),
-        Ok(Some(Verdict::Fit)) => plain(4),
-        Ok(Some(Verdict::Unfit)) => plain(5),
-        Err(question) => refused(question),
+        };
+        Reply {
+            length: written.length,
+            ..Reply::plain(kind)
+        }
     }
 }
 
 fn lend(journal: &mut [u8], lent: usize) -> &mut [u8] {
-    if lent < journal.len() {
-        &mut journal[0..lent]
-    } else {
-        journal
-    }
+    let length = journal.len().min(lent);
+    &mut journal[..length]
 }
 
 fn answer<M: Plan, S: Plan>(
     running: &mut Verification<M, S>,
     call: &Call,
     journal: &mut [u8],
-) -> Reply {
+) -> Result<Reply, Question> {
+    // the numbers of the C interface
     match call.kind {
-        0 => match running.open(call.value, call.meter, call.reference, call.agreement) {
-            Ok(()) => plain(1),
-            Err(question) => refused(question),
-        },
-        1 => match running.level() {
-            Ok(level) => Reply {
-                kind: 2,
-                value: level.tenths,
-                number: level.observation,
-                soonest: level.soonest,
-                length: 0,
-            },
-            Err(question) => refused(question),
-        },
-        2 => decision(running.code(call.value)),
-        3 => decision(running.late()),
-        _ => match running.close(lend(journal, call.lent), call.place) {
-            Ok(closed) => written(closed.verdict, closed.length),
-            Err(question) => refused(question),
-        },
-    }
-}
-
-fn all_passed() -> Option<Ready> {
-    let Ok(trial) = Inspection::begin().report(Check::Passed) else {
-        return None;
-    };
-    let Ok(insulation) = trial.report(Check::Passed) else {
-        return None;
-    };
-    match insulation.report(Check::Passed) {
-        Ok(ready) => Some(ready),
-        Err(_) => None,
+        0 => {
+            running.open(call.value, call.meter, call.reference, call.agreement)?;
+            Ok(Reply::plain(1))
+        }
+        1 => Ok(Reply::from(running.level()?)),
+        2 => Ok(Reply::from(running.code(call.value)?)),
+        3 => Ok(Reply::from(running.late()?)),
+        _ => Ok(Reply::from(running.close(lend(journal, call.lent), call.place)?)),
     }
 }
 
 // Each call's answer, up to the certificate. The rest of the answers stay as they are.
 fn run_all<M: Plan, S: Plan>(
-    verification: Verification<M, S>,
+    mut running: Verification<M, S>,
     calls: &[Call],
     journal: &mut [u8],
     answers: &mut [Reply],
 ) -> usize {
-    let mut running = verification;
-    let mut i = 0;
-    while i < calls.len() && i < answers.len() {
-        let call = &calls[i];
+    for (i, (call, reply)) in calls.iter().zip(answers.iter_mut()).enumerate() {
         if call.kind == 5 {
             match running.certify(lend(journal, call.lent), call.place) {
-                Ok(certified) => {
-                    answers[i] = written(certified.verdict, certified.length);
+                Ok(written) => {
+                    *reply = Reply::from(written);
                     return i + 1;
                 }
-                Err(back) => {
-                    let (question, same) = back;
+                Err((question, same)) => {
                     running = same;
-                    answers[i] = refused(question);
+                    *reply = Reply::from(question);
                 }
             }
         } else {
-            answers[i] = answer(&mut running, call, journal);
+            *reply = answer(&mut running, call, journal).unwrap_or_else(Reply::from);
         }
-        i += 1;
     }
-    i
+    calls.len().min(answers.len())
+}
+
+// Makes the calls on a verification that begins, if it does. Where it does not, the first answer says why and none is made.
+fn run<M: Plan, S: Plan>(
+    begun: Result<Verification<M, S>, Question>,
+    calls: &[Call],
+    journal: &mut [u8],
+    answers: &mut [Reply],
+) -> usize {
+    match begun {
+        Ok(verification) => run_all(verification, calls, journal, answers),
+        Err(question) => {
+            if let Some(first) = answers.first_mut() {
+                *first = Reply::from(question);
+            }
+            0
+        }
+    }
+}
+
+fn begin(
+    points: i32,
+    control: i32,
+    rule: i32,
+    main: &[i32],
+    short: &[i32],
+) -> Result<Running, Question> {
+    let main = plan_of(main)?;
+    let short = plan_of(short)?;
+    let orders = Orders::new(points, control, rule)?;
+    Ok(Inspection::all_passed().unwrap().start(orders, main, short))
+}
+
+fn begin_standard(points: i32, control: i32, rule: i32, line: Line) -> Result<Standard, Question> {
+    let main = Truncated::standard(line);
+    let orders = Orders::new(points, control, rule)?;
+    Ok(
+        Inspection::all_passed()
+            .unwrap()
+            .start(orders, main, ThreeStep),
+    )
 }
 
 // Makes the calls on a new verification, and answers how many were made: all, or those up to the certificate. Where a plan or
@@ -146,32 +158,8 @@ pub extern "C" fn hemmertaupe_run(
     journal: &mut [u8],
     answers: &mut [Reply],
 ) -> usize {
-    let Some(ready) = all_passed() else {
-        return 0;
-    };
-    match start(ready, points, control, rule, main, short) {
-        Ok(running) => run_all(running, calls, journal, answers),
-        Err(question) => {
-            if answers.len() > 0 {
-                answers[0] = refused(question);
-            }
-            0
-        }
-    }
-}
-
-fn start(
-    ready: Ready,
-    points: i32,
-    control: i32,
-    rule: i32,
-    main: &[i32],
-    short: &[i32],
-) -> Result<Running, Question> {
-    let main = plan_of(main)?;
-    let short = plan_of(short)?;
-    let orders = Orders::new(points, control, rule)?;
-    Ok(ready.start(orders, main, short))
+    let begun = begin(points, control, rule, main, short);
+    run(begun, calls, journal, answers)
 }
 
 // The same with a standard control as the main plan, strengthened or normal, and three-step as the short one, by their types
@@ -186,30 +174,13 @@ pub extern "C" fn hemmertaupe_run_standard(
     journal: &mut [u8],
     answers: &mut [Reply],
 ) -> usize {
-    let Some(ready) = all_passed() else {
-        return 0;
+    let line = if strengthened {
+        Line::Strengthened
+    } else {
+        Line::Normal
     };
-    match Orders::new(points, control, rule) {
-        Ok(orders) => {
-            let main = if strengthened {
-                Truncated::strengthened()
-            } else {
-                Truncated::normal()
-            };
-            run_all(
-                ready.start(orders, main, ThreeStep),
-                calls,
-                journal,
-                answers,
-            )
-        }
-        Err(question) => {
-            if answers.len() > 0 {
-                answers[0] = refused(question);
-            }
-            0
-        }
-    }
+    let begun = begin_standard(points, control, rule, line);
+    run(begun, calls, journal, answers)
 }
 
 // The bytes of a verification over any two plans.

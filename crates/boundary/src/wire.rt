@@ -1,4 +1,4 @@
-// What crosses the boundary, at fixed widths.
+// What crosses the boundary, at fixed widths: C reads kinds, refusals and what is not there as numbers.
 
 // A call: 0 open (main signal or code, meter, reference, agreement), 1 level, 2 code, 3 late, 4 close, 5 certify. A closing
 // and a certificate are lent the first `lent` bytes of the journal.
@@ -26,6 +26,19 @@ pub struct Reply {
     pub length: usize,
 }
 
+impl Reply {
+    // An answer that has a kind alone.
+    pub(crate) fn plain(kind: u32) -> Reply {
+        Reply {
+            kind,
+            value: 0,
+            number: 0,
+            soonest: 0,
+            length: 0,
+        }
+    }
+}
+
 // What a plan answers, or the number of the question that refused it.
 #[repr(C)]
 #[derive(Clone, Copy)]
@@ -41,6 +54,9 @@ pub struct Asked {
     pub offset: i32,
 }
 
+// As many fields as the longest record has.
+pub const FIELDS: usize = 13;
+
 // A record by the number of its kind and its fields in order; or a fault, whose kind is 0 and whose fields are the number of
 // the question and the layer (1 kind, 2 bits, 3 field).
 #[repr(C)]
@@ -49,5 +65,5 @@ pub struct Item {
     pub ordinal: usize,
     pub first_byte: usize,
     pub kind: u32,
-    pub fields: [i32; 13],
+    pub fields: [i32; FIELDS],
 }

@@ -1,19 +1,16 @@
 -- The text of each answer.
-use Rattle.std.specs.Prelude.{ℕ, Bool, true, false, List, [], ◌∷◌, ◌++◌, ℤ, codes, decimal}
+use Rattle.std.specs.Prelude.{ℕ, Bool, true, false, List, [], ◌∷◌, ◌++◌, ℤ, codes, decimal, Option, Some, None, unwrap_or}
 use Rattle.std.specs.Fmt.{signed_decimal}
 use Rattle.method.specs.Questions.{number_of}
 use Rattle.method.specs.declared.verdict.Verdict.{Verdict}
 use Rattle.method.specs.declared.verdict.Verdict.TheVariants.{Fit, Unfit}
-use Rattle.journal.specs.declared.codes.Signal.{Signal}
-use Rattle.journal.specs.declared.codes.Signal.TheVariants.{Inspection, Trial, Insulation}
+use Rattle.journal.specs.Codes.{signal_code}
 use Rattle.point.specs.declared.phase.Level.{Level}
 use Rattle.commands.specs.declared.reply.Norms.{Norms}
 use Rattle.commands.specs.declared.reply.PlanNumbers.{PlanNumbers}
 use Rattle.commands.specs.declared.reply.Reply.{Reply}
 use Rattle.commands.specs.declared.reply.Reply.TheVariants as reply
 use Rattle.commands.specs.declared.reply.Run.{Run}
-use Rattle.commands.specs.declared.reply.State.{State}
-use Rattle.commands.specs.declared.reply.State.TheVariants.{Going, Ended}
 
 -- a number behind a blank
 abbrev pub spaced : ℕ → List ℕ
@@ -26,9 +23,9 @@ abbrev pub verdict_text : Verdict → List ℕ
 verdict_text Fit = codes " fit"
 verdict_text Unfit = codes " unfit"
 
--- the level in tenths, the number of the coming observation and the soonest fit
+-- the level in tenths, the number of the coming observation and the soonest fit, 0 for none
 abbrev pub level_text : Level → List ℕ
-level_text l = spaced_signed l.tenths ++ (spaced l.observation ++ spaced l.soonest)
+level_text l = spaced_signed l.tenths ++ (spaced (unwrap_or l.observation 0) ++ spaced (unwrap_or l.soonest 0))
 
 abbrev pub numbers_text : PlanNumbers → List ℕ
 numbers_text p =
@@ -37,21 +34,17 @@ numbers_text p =
 abbrev pub norms_text : Norms → List ℕ
 norms_text n = spaced_signed n.accept ++ (spaced n.reject ++ spaced_signed n.offset)
 
-abbrev pub state_text : State → List ℕ
-state_text Going = codes " going"
-state_text (Ended v) = verdict_text v
+-- the verdict of a run, if it has ended
+abbrev pub state_text : Option Verdict → List ℕ
+state_text None = codes " going"
+state_text (Some v) = verdict_text v
 
 -- the codes that a run accepted, and its verdict if it has ended
 abbrev pub run_text : Run → List ℕ
-run_text o = spaced o.codes ++ state_text o.state
+run_text o = spaced o.codes ++ state_text o.verdict
 
 abbrev pub audit_text : Run → Run → List ℕ
 audit_text first all = run_text first ++ run_text all
-
-abbrev pub signal_number : Signal → ℕ
-signal_number Inspection = 1
-signal_number Trial = 2
-signal_number Insulation = 3
 
 abbrev pub closed_text : Verdict → ℕ → List ℕ
 closed_text v n = verdict_text v ++ spaced n
@@ -75,7 +68,7 @@ opening_words reply.Syntax = codes "syntax"
 -- the values that follow
 abbrev pub values_text : Reply → List ℕ
 values_text reply.Done = []
-values_text (reply.Notice s) = spaced (signal_number s)
+values_text (reply.Notice s) = spaced_signed (signal_code s)
 values_text (reply.Length n) = spaced n
 values_text (reply.Numbers p) = numbers_text p
 values_text (reply.Norms n) = norms_text n

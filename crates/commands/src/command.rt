@@ -3,14 +3,14 @@ use journal::Signal;
 use runs::Call;
 use verification::Check;
 
-// Which of a verification's two plans.
-#[derive(Clone, Copy)]
+// Which of a verification's two plans is typed; with which one a point begins is `PlanUsed`.
+#[derive(Clone, Copy, PartialEq, Eq, Debug)]
 pub enum Role {
     Main,
     Short,
 }
 
-#[derive(Clone, Copy)]
+#[derive(Clone, Copy, PartialEq, Eq, Debug)]
 pub enum Command {
     New,
     Manual(Signal, Check),
@@ -19,6 +19,7 @@ pub enum Command {
     Plan(Role),
     AskNumbers(Role),
     AskNorms(Role, u32),
+    // numbers as they are typed, here and below: whether a kind is known is a question
     Orders(i32, i32, i32),
     Journal(i32),
     Call(Call),

@@ -11,6 +11,6 @@ mod verb;
 pub use command::{Command, Role};
 pub use grammar::parse_line;
 pub use line::Line;
-pub use reply::{FIXED_LINE, FixedLine, Norms, PlanNumbers, Reply, Run, State};
+pub use reply::{Norms, PlanNumbers, Reply, Run};
 pub use reply_text::{fixed_line, push_reply};
 pub use verb::{Verb, name_verb};

@@ -2,7 +2,7 @@
 use crate::command::Command;
 
 // A blank line or a comment, a command, or no command.
-#[derive(Clone, Copy)]
+#[derive(Clone, Copy, PartialEq, Eq, Debug)]
 pub enum Line {
     Silent,
     Command(Command),

@@ -1,12 +1,10 @@
 // What a command is answered with.
-ghost use Rattle.std.specs.Prelude.{◌≤◌};
-
 use journal::Signal;
 use method::{Question, Verdict};
 use point::Level;
 
 // The numbers of a plan that hold at every observation.
-#[derive(Clone, Copy)]
+#[derive(Clone, Copy, PartialEq, Eq, Debug)]
 pub struct PlanNumbers {
     pub cut: u32,
     pub cut_number: u32,
@@ -16,27 +14,21 @@ pub struct PlanNumbers {
 }
 
 // The norms of one observation.
-#[derive(Clone, Copy)]
+#[derive(Clone, Copy, PartialEq, Eq, Debug)]
 pub struct Norms {
     pub accept: i32,
     pub reject: u32,
     pub offset: i32,
 }
 
-// What a run has come to, and after how many accepted codes.
-#[derive(Clone, Copy)]
-pub enum State {
-    Going,
-    Ended(Verdict),
-}
-
-#[derive(Clone, Copy)]
+// The codes that a run accepted, and its verdict if it has ended.
+#[derive(Clone, Copy, PartialEq, Eq, Debug)]
 pub struct Run {
     pub codes: u32,
-    pub state: State,
+    pub verdict: Option<Verdict>,
 }
 
-#[derive(Clone, Copy)]
+#[derive(Clone, Copy, PartialEq, Eq, Debug)]
 pub enum Reply {
     Done,
     Notice(Signal),
@@ -54,14 +46,3 @@ pub enum Reply {
     Misuse,
     Syntax,
 }
-
-// An answer's line in a place of fixed size, so that it is copied in one piece.
-#[derive(Clone, Copy)]
-pub struct FixedLine {
-    pub bytes: [u8; FIXED_LINE],
-    pub length: usize,
-    ghost within: { length ≤ 16 },
-}
-
-// As many bytes as the longest of these lines has, and some more.
-pub const FIXED_LINE: usize = 16;

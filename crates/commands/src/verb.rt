@@ -1,10 +1,8 @@
 // The words that begin a command.
-ghost use Rattle.commands.specs.Verbs.{journal_verb_named, preparation_named, verb_named};
+ghost use Rattle.commands.specs.Verbs.{verb_named};
 ghost use Rattle.std.specs.Prelude.{◌≡◌};
 
-use console::same_word;
-
-#[derive(Clone, Copy)]
+#[derive(Clone, Copy, PartialEq, Eq, Debug)]
 pub enum Verb {
     New,
     Manual,
@@ -30,61 +28,25 @@ pub enum Verb {
 pub fn name_verb(word: &[u8]) -> Option<Verb>
     ensures { result ≡ verb_named word.now }
 {
-    if same_word(word, b"code") {
-        Some(Verb::Code)
-    } else if same_word(word, b"level") {
-        Some(Verb::Level)
-    } else if same_word(word, b"open") {
-        Some(Verb::Open)
-    } else if same_word(word, b"close") {
-        Some(Verb::Close)
-    } else if same_word(word, b"late") {
-        Some(Verb::Late)
-    } else {
-        name_preparation(word)
-    }
-}
-
-// The commands around a verification.
-fn name_preparation(word: &[u8]) -> Option<Verb>
-    ensures { result ≡ preparation_named word.now }
-{
-    if same_word(word, b"new") {
-        Some(Verb::New)
-    } else if same_word(word, b"manual") {
-        Some(Verb::Manual)
-    } else if same_word(word, b"notice") {
-        Some(Verb::Notice)
-    } else if same_word(word, b"plan") {
-        Some(Verb::Plan)
-    } else if same_word(word, b"ask") {
-        Some(Verb::Ask)
-    } else if same_word(word, b"orders") {
-        Some(Verb::Orders)
-    } else if same_word(word, b"certificate") {
-        Some(Verb::Certificate)
-    } else if same_word(word, b"audit") {
-        Some(Verb::Audit)
-    } else {
-        name_journal_verb(word)
-    }
-}
-
-// The commands of the journal's bytes.
-fn name_journal_verb(word: &[u8]) -> Option<Verb>
-    ensures { result ≡ journal_verb_named word.now }
-{
-    if same_word(word, b"journal") {
-        Some(Verb::Journal)
-    } else if same_word(word, b"dump") {
-        Some(Verb::Dump)
-    } else if same_word(word, b"read") {
-        Some(Verb::Read)
-    } else if same_word(word, b"bytes") {
-        Some(Verb::Bytes)
-    } else if same_word(word, b"write") {
-        Some(Verb::Write)
-    } else {
-        None
+    match word {
+        b"code" => Some(Verb::Code),
+        b"level" => Some(Verb::Level),
+        b"open" => Some(Verb::Open),
+        b"close" => Some(Verb::Close),
+        b"late" => Some(Verb::Late),
+        b"new" => Some(Verb::New),
+        b"manual" => Some(Verb::Manual),
+        b"notice" => Some(Verb::Notice),
+        b"plan" => Some(Verb::Plan),
+        b"ask" => Some(Verb::Ask),
+        b"orders" => Some(Verb::Orders),
+        b"certificate" => Some(Verb::Certificate),
+        b"audit" => Some(Verb::Audit),
+        b"journal" => Some(Verb::Journal),
+        b"dump" => Some(Verb::Dump),
+        b"read" => Some(Verb::Read),
+        b"bytes" => Some(Verb::Bytes),
+        b"write" => Some(Verb::Write),
+        _ => None,
     }
 }

@@ -1,5 +1,4 @@
 mod ChosenCuts
 mod DigitSteps
+mod Fronts
 mod Parted
-pub mod Spelling
-pub mod Taking

@@ -1,5 +1,4 @@
 -- What a plan that was chosen at run time means.
-use Rattle.std.specs.Prelude.{take}
 use Rattle.method.specs.Lines.{line, numbers_of}
 use Rattle.method.specs.Meaning.{Meaning}
 use Rattle.method.specs.Plans.{truncated, three_step}
@@ -12,6 +11,6 @@ chosen_meaning (Line l) = line (numbers_of l)
 chosen_meaning (CutLine t) = truncated (line (numbers_of t.plan)) t.cut t.cut_number
 chosen_meaning (Short p) = three_step
 chosen_meaning (CutShort t) = truncated three_step t.cut t.cut_number
-chosen_meaning (Table t) = tabled (take t.len t.rows) t.limits
+chosen_meaning (Table t) = tabled t.rows t.limits
 chosen_meaning (CutTable t) =
-    truncated (tabled (take t.plan.len t.plan.rows) t.plan.limits) t.cut t.cut_number
+    truncated (tabled t.plan.rows t.plan.limits) t.cut t.cut_number

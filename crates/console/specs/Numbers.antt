@@ -1,13 +1,14 @@
 -- Decimal numbers, with an optional minus sign.
-use Rattle.std.specs.Prelude.{ℕ, ◌+◌, ◌-◌, ◌*◌, min, Bool, true, false, cond, ◌&&◌, List, [], ◌∷◌, drop, ℤ, pos, neg_ℤ, Some, None, fold, Option, ◌==◌, nat_le}
+use Rattle.std.specs.Prelude.{ℕ, ◌+◌, ◌-◌, ◌*◌, min, Bool, false, cond, List, [], ◌∷◌, drop, ℤ, pos, neg_ℤ, Some, None, fold, Option, ◌==◌}
+use Rattle.std.specs.Char.{is_ascii_digit}
+use Rattle.std.specs.List.{list_all}
 use Rattle.std.specs.Option.{option_map}
 
 abbrev pub digit : ℕ → Bool
-digit b = nat_le 48 b && nat_le b 57
+digit b = is_ascii_digit b
 
 abbrev pub digits : List ℕ → Bool
-digits [] = true
-digits (b ∷ bs) = digit b && digits bs
+digits bs = list_all digit bs
 
 -- the number that digits write
 abbrev pub value : List ℕ → ℕ

@@ -1,8 +1,6 @@
 -- Words parted by blanks.
 use Rattle.std.specs.Prelude.{ℕ, Bool, true, false, cond, not, ◌&&◌, ◌||◌, List, [], ◌∷◌, take, drop, Some, None, Option, ◌==◌, nat_le}
 use Rattle.std.specs.List.{prefix_len}
-use Rattle.console.specs.declared.words.Class.{Class}
-use Rattle.console.specs.declared.words.Class.TheVariants.{Blank, Letter}
 use Rattle.console.specs.declared.words.Words.{Words}
 
 -- a space, a tab, or another byte that ASCII moves on by
@@ -12,17 +10,14 @@ blank b = b == 32 || (nat_le 9 b && nat_le b 13)
 abbrev pub letter : ℕ → Bool
 letter b = not (blank b)
 
-abbrev pub of_class : Class → ℕ → Bool
-of_class Blank b = blank b
-of_class Letter b = letter b
-
+-- the line from its first letter on
 abbrev pub unblanked : List ℕ → List ℕ
-unblanked line = drop (prefix_len (of_class Blank) line) line
+unblanked line = drop (prefix_len blank line) line
 
 -- the letters that a line begins with, if it begins with one
 abbrev pub front_word : List ℕ → Option (List ℕ)
 front_word line =
-    cond (prefix_len (of_class Letter) line == 0) None (Some (take (prefix_len (of_class Letter) line) line))
+    cond (prefix_len letter line == 0) None (Some (take (prefix_len letter line) line))
 
 -- the first word of a line, if it has one
 abbrev pub first_word : List ℕ → Option (List ℕ)
@@ -30,7 +25,7 @@ first_word line = front_word (unblanked line)
 
 -- what stands behind the first word
 abbrev pub rest_of : List ℕ → List ℕ
-rest_of line = drop (prefix_len (of_class Letter) (unblanked line)) (unblanked line)
+rest_of line = drop (prefix_len letter (unblanked line)) (unblanked line)
 
 -- a letter in front of what follows it: the first of a word's letters, or a word of its own
 abbrev pub lettered : ℕ → Bool → List (List ℕ) → List (List ℕ)

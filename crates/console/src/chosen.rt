@@ -1,6 +1,6 @@
 // A plan that is chosen at run time.
 ghost use Rattle.console.specs.Chosen.{chosen_meaning};
-ghost use Rattle.method.specs.Plans.{Alike, normal_control, strengthened_control, truncated};
+ghost use Rattle.method.specs.Plans.{Alike, standard_control, truncated};
 ghost use Rattle.method.specs.Refusals.{refused_by, truncation_refusal};
 ghost use Rattle.std.specs.Prelude.{◌≡◌, IfOk, unsigned_abs};
 ghost use Rattle.console.specs.ChosenRanges.{chosen_ranged};
@@ -18,7 +18,7 @@ pub enum ChosenPlan {
     CutTable(Truncated<Tabled>),
 }
 
-// The same question to whichever plan it is.
+// The same question to whichever plan it is. A macro, since a closure is for one type of plan, and a Copy trait has no dyn.
 macro_rules! ask {
     ($chosen:expr, $plan:ident => $answer:expr) => {
         match $chosen {
@@ -33,16 +33,11 @@ macro_rules! ask {
 }
 
 impl ChosenPlan {
-    pub fn strengthened() -> ChosenPlan
-        ensures { chosen_meaning result ≡ strengthened_control }
+    // The standard control by a line.
+    pub fn standard(line: Line) -> ChosenPlan
+        ensures { chosen_meaning result ≡ standard_control line }
     {
-        ChosenPlan::CutLine(Truncated::strengthened())
-    }
-
-    pub fn normal() -> ChosenPlan
-        ensures { chosen_meaning result ≡ normal_control }
-    {
-        ChosenPlan::CutLine(Truncated::normal())
+        ChosenPlan::CutLine(Truncated::standard(line))
     }
 
     // The plan with a cut and a cut number of its own.
@@ -50,6 +45,7 @@ impl ChosenPlan {
         ensures refuses { refused_by result ≡ truncation_refusal (chosen_meaning self).cut cut cut_number }
         ensures makes { IfOk result (λ t. Alike (chosen_meaning t) (truncated (chosen_meaning self) (unsigned_abs cut) (unsigned_abs cut_number))) }
     {
+        // each arm makes another variant
         match self {
             ChosenPlan::Line(p) => Ok(ChosenPlan::CutLine(Truncated::new(p, cut, cut_number)?)),
             ChosenPlan::CutLine(p) => Ok(ChosenPlan::CutLine(p.truncate(cut, cut_number)?)),

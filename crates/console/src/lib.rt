@@ -12,5 +12,5 @@ pub use chosen::ChosenPlan;
 pub use number::{next_number, parse_number};
 pub use plan_name::{PlanName, name_plan, same_word};
 pub use plan_words::{PlanError, parse_plan};
-pub use text::{push_bytes, push_natural, push_signed};
+pub use text::{push_bytes, push_number};
 pub use words::Words;

@@ -3,7 +3,7 @@ ghost use Rattle.console.specs.Names.{plan_named};
 ghost use Rattle.std.specs.Str.{bytes_eq};
 ghost use Rattle.std.specs.Prelude.{◌≡◌};
 
-#[derive(Clone, Copy)]
+#[derive(Clone, Copy, PartialEq, Eq, Debug)]
 pub enum PlanName {
     Strengthened,
     Normal,
@@ -14,7 +14,7 @@ pub enum PlanName {
     Truncated,
 }
 
-// Whether two words are the same.
+// Whether two words are the same. `==` says no more; this says it by a name that is promised.
 pub fn same_word(word: &[u8], other: &[u8]) -> bool
     ensures { result ≡ bytes_eq word.now other.now }
 {
@@ -25,21 +25,14 @@ pub fn same_word(word: &[u8], other: &[u8]) -> bool
 pub fn name_plan(word: &[u8]) -> Option<PlanName>
     ensures { result ≡ plan_named word.now }
 {
-    if same_word(word, b"strengthened") {
-        Some(PlanName::Strengthened)
-    } else if same_word(word, b"normal") {
-        Some(PlanName::Normal)
-    } else if same_word(word, b"three-step") {
-        Some(PlanName::ThreeStep)
-    } else if same_word(word, b"line-strengthened") {
-        Some(PlanName::LineStrengthened)
-    } else if same_word(word, b"line-normal") {
-        Some(PlanName::LineNormal)
-    } else if same_word(word, b"tabled") {
-        Some(PlanName::Tabled)
-    } else if same_word(word, b"truncated") {
-        Some(PlanName::Truncated)
-    } else {
-        None
+    match word {
+        b"strengthened" => Some(PlanName::Strengthened),
+        b"normal" => Some(PlanName::Normal),
+        b"three-step" => Some(PlanName::ThreeStep),
+        b"line-strengthened" => Some(PlanName::LineStrengthened),
+        b"line-normal" => Some(PlanName::LineNormal),
+        b"tabled" => Some(PlanName::Tabled),
+        b"truncated" => Some(PlanName::Truncated),
+        _ => None,
     }
 }

@@ -1,5 +1,5 @@
 // The words of a line, parted by blanks.
-ghost use Rattle.console.specs.Words.{blank, first_word, left, of_class, rest_of, unblanked, wordless, words_by};
+ghost use Rattle.console.specs.Words.{blank, first_word, left, letter, rest_of, unblanked, wordless, words_by};
 ghost use Rattle.std.specs.Prelude.{◌≡◌, ◌<◌, ◌≤◌, true, [], ◌∷◌, length, drop, is_some, MatchOption};
 ghost use Rattle.std.specs.Option.{option_map};
 ghost use Rattle.std.specs.List.{prefix_len};
@@ -9,33 +9,10 @@ pub struct Words<'a> {
     rest: &'a [u8],
 }
 
-// What a word is made of, and what parts words.
-#[derive(Clone, Copy)]
-enum Class {
-    Blank,
-    Letter,
-}
-
-fn is_of(class: Class, b: u8) -> bool
-    ensures { result ≡ of_class class b }
+fn is_blank(b: u8) -> bool
+    ensures { result ≡ blank b }
 {
-    let is_blank = b == b' ' || (b'\t' <= b && b <= b'\r');
-    match class {
-        Class::Blank => is_blank,
-        Class::Letter => !is_blank,
-    }
-}
-
-// How many bytes of that class a line begins with.
-fn run_of(class: Class, line: &[u8]) -> usize
-    ensures is { result ≡ prefix_len (of_class class) line.now }
-    ensures within { result ≤ length line.now }
-{
-    let mut n = 0;
-    while n < line.len() && is_of(class, line[n]) {
-        n += 1;
-    }
-    n
+    matches!(b, b' ' | b'\t'..=b'\r')
 }
 
 // The line from its first word on.
@@ -43,7 +20,16 @@ fn skip_blanks(line: &[u8]) -> &[u8]
     ensures is { result.now ≡ unblanked line.now }
     ensures within { length result.now ≤ length line.now }
 {
-    &line[run_of(Class::Blank, line)..]
+    let first = line.iter().position(|b| !is_blank(*b));
+    &line[first.unwrap_or(line.len())..]
+}
+
+// How long the word is that a line begins with, or 0.
+fn word_len(line: &[u8]) -> usize
+    ensures is { result ≡ prefix_len letter line.now }
+    ensures within { result ≤ length line.now }
+{
+    line.iter().position(|b| is_blank(*b)).unwrap_or(line.len())
 }
 
 impl<'a> Words<'a> {
@@ -72,7 +58,7 @@ impl<'a> Words<'a> {
         ensures shorter { is_some result ≡ true → length self.new.rest.now < length self.old.rest.now }
     {
         let line = skip_blanks(self.rest);
-        let length = run_of(Class::Letter, line);
+        let length = word_len(line);
         let (word, rest) = line.split_at(length);
         self.rest = rest;
         if length == 0 { None } else { Some(word) }

@@ -1,4 +1,3 @@
-mod Products
 pub mod TallySteps
 pub mod EndsFirst
 mod RunSteps

@@ -11,7 +11,7 @@ use Rattle.control.specs.declared.ending.Ending.{Ending}
 
 passes_on : (o : Option Verdict) (i : ℕ) (a b c : Option Ending) → or_later o i a ≡ None → (a ≡ None → b ≡ c) → or_later o i b ≡ c
 passes_on None i a b c e f = f e
-passes_on (Some v) i a b c e f = let z : ◌≡◌ {A = ℕ} 0 1 = cc in absurd (omega arith)
+passes_on (Some v) i a b c e f = cc
 
 pub run_on : (m : Meaning) (d n x : ℕ) (es fs : List ℤ) → run m d n x es ≡ None → run m d n x (es ++ fs) ≡ run m d (n + length es) (x + count_out m d es) fs
 run_on m d n x [] fs e = ap (λ k. run m d k x fs) (sym (add-zero n)) ∙ ap (λ k. run m d (n + 0) k fs) (sym (add-zero x))

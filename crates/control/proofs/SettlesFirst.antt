@@ -75,31 +75,22 @@ module _ (n : ℕ) (cs : List ℤ) where
   pub settles_first : SettlesFirst n cs (settling_end n no_codes cs)
   settles_first = from (length cs) 0 no_codes (omega arith) (latest_none cs) (λ k low high. absurd (omega arith))
 
--- what the loop over the codes keeps
-pub record Unsettled (n : ℕ) (k : Codes) (cs : List ℤ) (i : ℕ) : Type 0 where
-  pub room : k.count < 200
-  pub comes : settling_end n no_codes cs ≡ settling_end n k (drop i cs)
-
-module _ (n : ℕ) (k : Codes) (cs : List ℤ) (i : ℕ) (h : i < length cs) (g : Unsettled n k cs i) (z : ℤ) (q : z ≡ get_or cs i (pos 0)) (u : Codes) (a : u ≡ with_code k z) where
-  turn : settling_end n no_codes cs ≡ or_settles (settled_by n k z) (k.count + 1) (settling_end n (with_code k z) (drop (i + 1) cs))
+-- one turn of the loop over the codes
+module _ (n : ℕ) (k : Codes) (cs : List ℤ) (i : ℕ) (h : i < length cs) (z : ℤ) (q : z ≡ get_or cs i (pos 0)) where
+  turn : settling_end n k (drop i cs) ≡ or_settles (settled_by n k z) (k.count + 1) (settling_end n (with_code k z) (drop (i + 1) cs))
   turn =
-      g.comes ∙ at_drop_more (settling_end n k) cs i (pos 0) h
+      at_drop_more (settling_end n k) cs i (pos 0) h
       ∙ ap (λ y. or_settles (settled_by n k y) (k.count + 1) (settling_end n (with_code k y) (drop (i + 1) cs))) (sym q)
 
-  pub ends : (b : SettledBy) → Some b ≡ settled_by n k z → Some (record { by = b; codes = u.count }) ≡ settling_end n no_codes cs
-  ends b e =
-      ap (λ y. Some (record { by = b; codes = y.count })) a
+  pub settles : (s : Settled) → s.codes ≡ k.count + 1 → Some s.by ≡ settled_by n k z → Some s ≡ settling_end n k (drop i cs)
+  settles s c e =
+      ap (λ count. Some (record { by = s.by; codes = count })) c
       ∙ ap (λ o. or_settles o (k.count + 1) (settling_end n (with_code k z) (drop (i + 1) cs))) e ∙ sym turn
 
-  pub goes : None ≡ settled_by n k z → u.count < 200 → Unsettled n u cs (i + 1)
-  goes e r = record {
-    room = r;
-    comes = turn ∙ ap (λ o. or_settles o (k.count + 1) (settling_end n (with_code k z) (drop (i + 1) cs))) (sym e)
-        ∙ ap (λ y. settling_end n y (drop (i + 1) cs)) (sym a);
-  }
-
-pub over : (n : ℕ) (k : Codes) (cs : List ℤ) (i : ℕ) → length cs ≤ i → Unsettled n k cs i → None ≡ settling_end n no_codes cs
-over n k cs i h g = sym (at_drop_all (settling_end n k) cs i h) ∙ sym g.comes
+  pub goes_on : (u : Codes) → u ≡ with_code k z → None ≡ settled_by n k z → settling_end n k (drop i cs) ≡ settling_end n u (drop (i + 1) cs)
+  goes_on u a e =
+      turn ∙ ap (λ o. or_settles o (k.count + 1) (settling_end n (with_code k z) (drop (i + 1) cs))) (sym e)
+      ∙ ap (λ y. settling_end n y (drop (i + 1) cs)) (sym a)
 
 -- the law of what a call returned
 pub first_of : (n : ℕ) (cs : List ℤ) (r : Option Settled) → r ≡ settling_end n no_codes cs → SettlesFirst n cs r

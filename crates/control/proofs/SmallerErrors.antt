@@ -49,7 +49,7 @@ later_step (Some w) n r h v i e = omega (arith, ap place e)
 later_step None n r h v i e = omega (arith, h v i e)
 
 later : (m : Meaning) (d n x : ℕ) (es : List ℤ) → Later n (run m d n x es)
-later m d n x [] = λ v i e. let z : ◌≡◌ {A = ℕ} 0 1 = cc in absurd (omega arith)
+later m d n x [] = λ v i e. absurd cc
 later m d n x (e ∷ es) =
     let ok = in_tolerance m.margin d e in
     let x' = x + cond ok 0 1 in
@@ -59,9 +59,9 @@ later m d n x (e ∷ es) =
 step : (v w : Option Verdict) (n : ℕ) (a b : Option Ending) → Told v w → Later n a → Later n b → NoWorse a b → NoWorse (or_later v n a) (or_later w n b)
 step None None n a b t p q l = l
 step None (Some Fit) n a b t p q l = (λ i e. (n, omega (arith, p Fit i e), refl), λ j e. absurd (omega (arith, ap kind e)))
-step None (Some Unfit) n a b t p q l = let z : ◌≡◌ {A = ℕ} 0 1 = cc (t.1 refl) in absurd (omega arith)
-step (Some Fit) None n a b t p q l = let z : ◌≡◌ {A = ℕ} 0 1 = cc (t.0 refl) in absurd (omega arith)
-step (Some Fit) (Some Unfit) n a b t p q l = let z : ◌≡◌ {A = ℕ} 0 1 = cc (t.0 refl) in absurd (omega arith)
+step None (Some Unfit) n a b t p q l = absurd (cc (t.1 refl))
+step (Some Fit) None n a b t p q l = absurd (cc (t.0 refl))
+step (Some Fit) (Some Unfit) n a b t p q l = absurd (cc (t.0 refl))
 step (Some Fit) (Some Fit) n a b t p q l = (λ i e. (n, omega (arith, ap place e), refl), λ j e. absurd (omega (arith, ap kind e)))
 step (Some Unfit) None n a b t p q l = (λ i e. absurd (omega (arith, ap kind e)), λ j e. (n, omega (arith, q Unfit j e), refl))
 step (Some Unfit) (Some Fit) n a b t p q l = (λ i e. absurd (omega (arith, ap kind e)), λ j e. absurd (omega (arith, ap kind e)))

@@ -1,6 +1,7 @@
 -- An attempt: its numbers, and how it ends.
 use Rattle.std.specs.Prelude.{◌≡◌, ℕ, ◌+◌, ◌*◌, ◌≤◌, Bool, false, cond, ◌||◌, ℤ, pos, ◌+ℤ◌, Some, None, Option, int_le, nat_le, unsigned_abs}
 use Rattle.method.specs.Meaning.{Meaning}
+use Rattle.method.specs.Verdicts.{fit_if}
 use Rattle.method.specs.declared.verdict.Verdict.{Verdict}
 use Rattle.method.specs.declared.verdict.Verdict.TheVariants.{Fit, Unfit}
 use Rattle.control.specs.Errors.{is_wild, counted}
@@ -30,10 +31,6 @@ abbrev pub Sound : Tally → Type 0
 Sound t =
     (t.observations ≤ 48) × (t.outs ≤ t.observations) × (unsigned_abs t.sum ≤ 2000 * t.observations)
     × (t.squares ≤ 4000000 * t.observations)
-
--- fit where the test holds
-abbrev pub fit_if : Bool → Verdict
-fit_if b = cond b Fit Unfit
 
 -- at the cut the cut number decides, and before it the attempt goes on
 abbrev pub cut_verdict : Meaning → ℕ → ℕ → Option Verdict

@@ -1,5 +1,6 @@
 -- The soonest observation at which an attempt could end fit.
-use Rattle.std.specs.Prelude.{◌≡◌, ℕ, zero, suc, ◌+◌, ◌-◌, ◌≤◌, Bool, true, cond, ◌&&◌, ◌||◌, List, [], ◌∷◌, ◌++◌, length, ℤ, pos, None, ◌==◌, ◌≢◌, int_le, nat_le}
+use Rattle.std.specs.Prelude.{◌≡◌, ℕ, ◌+◌, ◌-◌, ◌≤◌, Bool, true, ◌&&◌, ◌||◌, List, [], ◌∷◌, ◌++◌, length, ℤ, pos, Some, None, Option, find, ◌==◌, int_le, nat_le}
+use Rattle.std.specs.List.{range_with_len}
 use Rattle.method.specs.Meaning.{Meaning}
 use Rattle.method.specs.declared.verdict.Verdict.TheVariants.{Fit}
 use Rattle.control.specs.Sequences.{Ends, sequence_end}
@@ -10,13 +11,12 @@ use Rattle.control.specs.Tolerances.{in_tolerance}
 abbrev pub could_end : Meaning → ℕ → ℕ → Bool
 could_end m x i = int_le (pos x) (m.accept i) || (i == m.cut && nat_le x m.cut_number)
 
--- the first of count observations from i on at which it could, or 0
-abbrev pub first_end : Meaning → ℕ → ℕ → ℕ → ℕ
-first_end m x i zero = 0
-first_end m x i (suc count) = cond (could_end m x i) i (first_end m x (i + 1) count)
+-- the first of count observations from i on at which it could
+abbrev pub first_end : Meaning → ℕ → ℕ → ℕ → Option ℕ
+first_end m x i count = find (could_end m x) (range_with_len i count)
 
--- the first after observation n and up to the cut, or 0
-abbrev pub soonest_fit : Meaning → ℕ → ℕ → ℕ
+-- the first after observation n and up to the cut
+abbrev pub soonest_fit : Meaning → ℕ → ℕ → Option ℕ
 soonest_fit m n x = first_end m x (n + 1) (m.cut - n)
 
 -- every error is in tolerance
@@ -30,12 +30,12 @@ pub record GoingOn (m : Meaning) (d n x : ℕ) (es : List ℤ) : Type 0 where
   pub out : count_out m d es ≡ x
   pub unended : sequence_end m d es ≡ None
 
--- With errors to come that are all in tolerance, the attempt ends fit at r once they reach it, where r is not 0;
--- where r is 0 it never ends fit.
-pub record Foretold (m : Meaning) (d r : ℕ) (es to_come : List ℤ) : Type 0 where
-  pub fit : (r ≢ 0) → r ≤ length es + length to_come → Ends (sequence_end m d (es ++ to_come)) Fit r
-  pub never : r ≡ 0 → (i : ℕ) → Ends (sequence_end m d (es ++ to_come)) Fit i → ⊥
+-- With errors to come that are all in tolerance, the attempt ends fit at the observation r, where there is one, once they reach it;
+-- where there is none it never ends fit.
+pub record Foretold (m : Meaning) (d : ℕ) (r : Option ℕ) (es to_come : List ℤ) : Type 0 where
+  pub fit : (i : ℕ) → r ≡ Some i → i ≤ length es + length to_come → Ends (sequence_end m d (es ++ to_come)) Fit i
+  pub never : r ≡ None → (i : ℕ) → Ends (sequence_end m d (es ++ to_come)) Fit i → ⊥
 
 -- The soonest observation says what will happen to every attempt with n observations and x out.
-abbrev pub Foretells : Meaning → ℕ → ℕ → ℕ → Type 0
+abbrev pub Foretells : Meaning → ℕ → ℕ → Option ℕ → Type 0
 Foretells m n x r = (d : ℕ) (es to_come : List ℤ) → GoingOn m d n x es → AllIn m d to_come → Foretold m d r es to_come

@@ -48,11 +48,6 @@ EndsByCut m es r = m.cut ≤ length es → (e : Ending) × (r ≡ Some e) × (e.
 abbrev pub Ends : Option Ending → Verdict → ℕ → Type 0
 Ends r v i = r ≡ Some (record { verdict = v; at = i })
 
--- the end that a verdict makes of an attempt with these numbers
-abbrev pub ending_of : Tally → Option Verdict → Option Ending
-ending_of t None = None
-ending_of t (Some v) = Some (record { verdict = v; at = t.observations })
-
 -- These errors bring a new attempt to the numbers t: all of them, where it has not ended, or else those up to its end.
 abbrev pub Brought : Meaning → ℕ → List ℤ → Tally → Option Verdict → Type 0
 Brought m d es t None = (t ≡ tally_of m d es) × (sequence_end m d es ≡ None)

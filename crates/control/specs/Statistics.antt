@@ -1,7 +1,7 @@
 -- Quantity control and dominance, from the numbers of an attempt.
 use Rattle.std.specs.Prelude.{ℕ, ◌-◌, ◌*◌, Bool, cond, not, ◌&&◌, ◌||◌, ℤ, pos, ◌-ℤ◌, ◌*ℤ◌, ◌==◌, int_lt, nat_lt, unsigned_abs}
 use Rattle.method.specs.declared.verdict.Verdict.{Verdict}
-use Rattle.control.specs.Attempts.{fit_if}
+use Rattle.method.specs.Verdicts.{fit_if}
 use Rattle.control.specs.declared.tally.Tally.{Tally}
 
 -- S S

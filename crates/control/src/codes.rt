@@ -1,7 +1,7 @@
 // The settling codes of a point, and how settling ended.
 
-// How many settling codes there were, the latest of them and the one before it.
-#[derive(Clone, Copy)]
+// How many settling codes there were, the latest of them and the one before it; the count says which of the two are there, so they are no Options.
+#[derive(Clone, Copy, PartialEq, Eq, Debug)]
 pub struct Codes {
     pub count: u32,
     pub last: i32,
@@ -22,7 +22,7 @@ pub enum SettledBy {
 }
 
 // Settling that is over: by what, and how many codes it took.
-#[derive(Clone, Copy)]
+#[derive(Clone, Copy, PartialEq, Eq, Debug)]
 pub struct Settled {
     pub by: SettledBy,
     pub codes: u32,

@@ -1,6 +1,6 @@
 // How the reference's error is taken to be distributed, which chooses a plan's coefficient.
 
-#[derive(Clone, Copy)]
+#[derive(Clone, Copy, PartialEq, Eq, Debug)]
 pub enum Distribution {
     Trapezoid,
     Uniform,

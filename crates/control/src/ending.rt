@@ -1,7 +1,7 @@
 // Where and how an attempt's sequence ends.
 use method::Verdict;
 
-#[derive(Clone, Copy)]
+#[derive(Clone, Copy, PartialEq, Eq, Debug)]
 pub struct Ending {
     pub verdict: Verdict,
     // the observation that brought it

@@ -8,7 +8,7 @@ use method::measures::{SCALE, WILD};
 pub(crate) fn is_wild(error: i32) -> bool
     ensures { result ≡ is_wild error }
 {
-    error.unsigned_abs() > WILD as u32
+    !(-WILD..=WILD).contains(&error)
 }
 
 // The error as it counts: a wild one is cut to the largest size, with its sign.
@@ -26,19 +26,12 @@ pub(crate) fn counted_size(error: i32) -> u32
     as_counted(error).unsigned_abs()
 }
 
-fn squared(size: u32) -> u32
-    requires { size ≤ 2000 }
-    ensures is { result ≡ size * size }
-    ensures small { result ≤ 4000000 }
-{
-    size * size
-}
-
 pub(crate) fn counted_square(error: i32) -> u32
     ensures is { result ≡ unsigned_abs (counted error) * unsigned_abs (counted error) }
     ensures small { result ≤ 4000000 }
 {
-    squared(counted_size(error))
+    let size = counted_size(error);
+    size * size
 }
 
 // Whether an error is in tolerance under a plan's margin.

@@ -8,7 +8,7 @@ use crate::tally::Tally;
 use crate::tolerance::Tolerance;
 use method::Verdict;
 
-#[derive(Clone, Copy)]
+#[derive(Clone, Copy, PartialEq, Eq, Debug)]
 pub struct Finished {
     pub(crate) verdict: Verdict,
     pub(crate) tally: Tally,

@@ -9,27 +9,10 @@ use crate::permitted::Permitted;
 use crate::sequences::sequence;
 use method::Plan;
 
-#[derive(Clone, Copy)]
+#[derive(Clone, Copy, PartialEq, Eq, Debug)]
 pub struct Endings {
     pub first: Option<Ending>,
     pub second: Option<Ending>,
-}
-
-fn end_both<P: Plan>(
-    plan: &P,
-    distribution: Distribution,
-    first: Permitted,
-    errors: &[i32],
-    second: Permitted,
-    smaller: &[i32],
-) -> Endings
-    ensures first { result.first ≡ sequence_under (P.Plan.meaning plan.now) distribution first.meter first.reference errors.now }
-    ensures second { result.second ≡ sequence_under (P.Plan.meaning plan.now) distribution second.meter second.reference smaller.now }
-{
-    Endings {
-        first: sequence(plan, distribution, first, errors),
-        second: sequence(plan, distribution, second, smaller),
-    }
 }
 
 // The ends of two sequences under one plan and one of its coefficients.
@@ -47,5 +30,8 @@ pub fn sequence_pair<P: Plan>(
     ensures no_worse { Eased (P.Plan.meaning plan.now) first.meter first.reference errors.now second.meter second.reference smaller.now → NoWorse result.first result.second }
     ensures steady { Steady (P.Plan.meaning plan.now) }
 {
-    end_both(plan, distribution, first, errors, second, smaller)
+    Endings {
+        first: sequence(plan, distribution, first, errors),
+        second: sequence(plan, distribution, second, smaller),
+    }
 }

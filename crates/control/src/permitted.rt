@@ -7,7 +7,7 @@ use method::Question;
 use method::measures::{METER_ERROR_MAX, METER_ERROR_MIN};
 
 // In tenths.
-#[derive(Clone, Copy)]
+#[derive(Clone, Copy, PartialEq, Eq, Debug)]
 pub struct Permitted {
     pub(crate) meter: u32,
     pub(crate) reference: u32,
@@ -22,15 +22,15 @@ impl Permitted {
         ensures refuses { refused_by result ≡ permitted_refusal meter reference }
         ensures makes { IfOk result (λ t. (pos t.meter ≡ meter) × (pos t.reference ≡ reference)) }
     {
-        if meter < METER_ERROR_MIN || meter > METER_ERROR_MAX {
+        if !(METER_ERROR_MIN..=METER_ERROR_MAX).contains(&meter) {
             return Err(Question::MeterErrorInRange);
         }
-        if reference < 0 || reference > meter {
+        if !(0..=meter).contains(&reference) {
             return Err(Question::ReferenceErrorInRange);
         }
         Ok(Permitted {
-            meter: meter as u32,
-            reference: reference as u32,
+            meter: meter.unsigned_abs(),
+            reference: reference.unsigned_abs(),
         })
     }
 

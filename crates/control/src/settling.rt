@@ -1,11 +1,13 @@
 // Settling of a new point's codes.
 ghost use Rattle.std.specs.Prelude.{◌≡◌, ◌<◌, ◌≤◌, pos, IfOk, Some, None, unsigned_abs};
+ghost use Rattle.std.specs.ControlFlow.{MatchControlFlow, break_value};
 ghost use Rattle.control.specs.Settlings.{SettlesFirst, agree, agreement_refusal, near, no_codes, settled_at, settled_by, settling_end, with_code};
 ghost use Rattle.method.specs.Refusals.{refused_by};
 
 use crate::codes::{Codes, NO_CODES, Settled, SettledBy};
 use method::Question;
 use method::measures::AGREEMENT_MAX;
+use std::ops::ControlFlow;
 
 // The last settling code that a point may have.
 const LAST_CODE: u32 = 200;
@@ -19,13 +21,6 @@ pub struct Settling {
     ghost room: { codes.count < 200 },
 }
 
-// What a code makes of settling.
-#[derive(Drop)]
-pub enum Settlement {
-    GoesOn(Settling),
-    Over(Settled),
-}
-
 fn are_near(agreement: u32, a: i32, b: i32) -> bool
     ensures { result ≡ near agreement a b }
 {
@@ -36,13 +31,7 @@ fn are_near(agreement: u32, a: i32, b: i32) -> bool
 fn all_agree(agreement: u32, a: i32, b: i32, c: i32) -> bool
     ensures { result ≡ agree agreement a b c }
 {
-    if !are_near(agreement, a, b) {
-        return false;
-    }
-    if !are_near(agreement, a, c) {
-        return false;
-    }
-    are_near(agreement, b, c)
+    are_near(agreement, a, b) && are_near(agreement, a, c) && are_near(agreement, b, c)
 }
 
 // How the i-th code ends the settling, if it does; the latest is a, and b and c were before it.
@@ -50,12 +39,9 @@ fn settled_at(agreement: u32, i: u32, a: i32, b: i32, c: i32) -> Option<SettledB
     ensures is { result ≡ settled_at agreement i a b c }
     ensures room { result ≡ None → i < 200 }
 {
-    if i >= 3 {
-        if all_agree(agreement, a, b, c) {
-            return Some(SettledBy::Agreement);
-        }
-    }
-    if i >= LAST_CODE {
+    if i >= 3 && all_agree(agreement, a, b, c) {
+        Some(SettledBy::Agreement)
+    } else if i >= LAST_CODE {
         Some(SettledBy::LastCode)
     } else {
         None
@@ -84,11 +70,11 @@ impl Settling {
         ensures refuses { refused_by result ≡ agreement_refusal agreement }
         ensures makes { IfOk result (λ s. (pos s.agreement ≡ agreement) × (s.codes ≡ no_codes)) }
     {
-        if agreement < 0 || agreement > AGREEMENT_MAX {
+        if !(0..=AGREEMENT_MAX).contains(&agreement) {
             return Err(Question::AgreementInRange);
         }
         Ok(Settling {
-            agreement: agreement as u32,
+            agreement: agreement.unsigned_abs(),
             codes: NO_CODES,
         })
     }
@@ -101,39 +87,32 @@ impl Settling {
     }
 
     // One settling code more.
-    pub fn take(self, code: i32) -> Settlement
-        ensures { elim result [ Settlement.GoesOn s ↦ (s.codes ≡ with_code self.codes code) × (None ≡ settled_by self.agreement self.codes code) × (s.agreement ≡ self.agreement) | Settlement.Over s ↦ (s.codes ≡ (with_code self.codes code).count) × (Some s.by ≡ settled_by self.agreement self.codes code) ] }
+    pub fn take(self, code: i32) -> ControlFlow<Settled, Settling>
+        ensures { MatchControlFlow result (λ s. (s.codes ≡ with_code self.codes code) × (None ≡ settled_by self.agreement self.codes code) × (s.agreement ≡ self.agreement)) (λ s. (s.codes ≡ (with_code self.codes code).count) × (Some s.by ≡ settled_by self.agreement self.codes code)) }
     {
         let (codes, by) = settled_with(self.agreement, self.codes, code);
         match by {
-            None => Settlement::GoesOn(Settling {
+            None => ControlFlow::Continue(Settling {
                 agreement: self.agreement,
                 codes,
             }),
-            Some(by) => Settlement::Over(Settled {
+            Some(by) => ControlFlow::Break(Settled {
                 by,
                 codes: codes.count,
             }),
         }
     }
-}
 
-// The codes one by one, until settling ends or none is left.
-fn settle_through(agreement: u32, codes: &[i32]) -> Option<Settled>
-    ensures { result ≡ settling_end agreement no_codes codes.now }
-{
-    let mut latest = NO_CODES;
-    for code in codes {
-        let (after, by) = settled_with(agreement, latest, *code);
-        if let Some(by) = by {
-            return Some(Settled {
-                by,
-                codes: after.count,
-            });
+    // These codes more, one by one, until settling ends or none is left.
+    fn through(self, codes: &[i32]) -> ControlFlow<Settled, Settling>
+        ensures { break_value result ≡ settling_end self.agreement self.codes codes.now }
+    {
+        let mut settling = self;
+        for code in codes {
+            settling = settling.take(*code)?;
         }
-        latest = after;
+        ControlFlow::Continue(settling)
     }
-    None
 }
 
 // Where and how settling over these codes ends, if they bring it to its end.
@@ -142,6 +121,6 @@ pub fn settle(agreement: i32, codes: &[i32]) -> Result<Option<Settled>, Question
     ensures is { IfOk result (λ s. s ≡ settling_end (unsigned_abs agreement) no_codes codes.now) }
     ensures first { IfOk result (λ s. SettlesFirst (unsigned_abs agreement) codes.now s) }
 {
-    let new = Settling::new(agreement)?;
-    Ok(settle_through(new.agreement, codes))
+    let settling = Settling::new(agreement)?;
+    Ok(settling.through(codes).break_value())
 }

@@ -8,25 +8,14 @@ use method::Plan;
 fn could_end_fit<P: Plan>(plan: &P, x: u32, i: u32) -> bool
     ensures { result ≡ could_end (P.Plan.meaning plan.now) x i }
 {
-    if i64::from(x) <= i64::from(plan.accept_number(i)) {
-        return true;
-    }
-    i == plan.cut() && x <= plan.cut_number()
+    i64::from(x) <= i64::from(plan.accept_number(i)) || i == plan.cut() && x <= plan.cut_number()
 }
 
-// The least observation after n, up to the cut, at which an attempt with x out could end fit if all to come are in tolerance; 0 if there is none.
-pub fn soonest_fit<P: Plan>(plan: &P, n: u32, x: u32) -> u32
+// The least observation after n, up to the cut, at which an attempt with x out could end fit if all to come are in tolerance.
+pub fn soonest_fit<P: Plan>(plan: &P, n: u32, x: u32) -> Option<u32>
     ensures is { result ≡ soonest_fit (P.Plan.meaning plan.now) n x }
     ensures foretells { Foretells (P.Plan.meaning plan.now) n x result }
 {
-    let cut = plan.cut();
-    if n >= cut {
-        return 0;
-    }
-    for i in n + 1..cut + 1 {
-        if could_end_fit(plan, x, i) {
-            return i;
-        }
-    }
-    0
+    // `..=` was tried: the library does not say what `find` finds in it
+    (n.saturating_add(1)..plan.cut() + 1).find(|&i| could_end_fit(plan, x, i))
 }

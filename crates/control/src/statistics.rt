@@ -26,26 +26,19 @@ fn spread_of(tally: Tally) -> i128
     ensures is { result ≡ spread_of tally }
     ensures small { unsigned_abs result ≤ 18446744073709551616 }
 {
-    product(tally.squares, tally.observations) as i128 - square_of(tally.sum) as i128
-}
-
-// W = N D - 10,000 |S|.
-fn room_of(tally: Tally, width: u32) -> i128
-    requires few { tally.observations ≤ 48 }
-    requires high { width ≤ 10000000 }
-    ensures is { result ≡ room_left width tally }
-    ensures high { result ≤ℤ pos 480000000 }
-{
-    product(tally.observations, width) as i128 - product(SCALE, tally.sum.unsigned_abs()) as i128
+    i128::from(product(tally.squares, tally.observations)) - i128::from(square_of(tally.sum))
 }
 
 // u, 25 of Student's factor.
-fn student_of(n: u32) -> u32
-    requires { n ≤ 48 }
+pub fn student(n: u32) -> u32
     ensures is { result ≡ student n }
     ensures small { result ≤ 150 }
 {
-    if n < 10 { 150 } else { 120 - n }
+    if n < 10 {
+        150
+    } else {
+        120u32.saturating_sub(n)
+    }
 }
 
 // 160,000 u u.
@@ -63,16 +56,7 @@ fn scaled(k: u64, v: i128) -> i128
     requires value { unsigned_abs v ≤ 18446744073709551616 }
     ensures { result ≡ pos k *ℤ v }
 {
-    k as i128 * v
-}
-
-// W W.
-fn squared_room(room: i128) -> i128
-    requires { unsigned_abs room ≤ 480000000 }
-    ensures is { result ≡ room *ℤ room }
-    ensures small { unsigned_abs result ≤ 230400000000000000 }
-{
-    room * room
+    i128::from(k) * v
 }
 
 // N - 1.
@@ -82,44 +66,51 @@ fn freedom(tally: Tally) -> u64
     u64::from(tally.observations.saturating_sub(1))
 }
 
-// Whether the mean and the spread of the errors leave room in the tolerance. At equality they do not.
-fn leaves_room(tally: Tally, width: u32) -> bool
-    requires few { tally.observations ≤ 48 }
-    requires high { width ≤ 10000000 }
-    ensures { result ≡ spread_leaves_room width tally }
-{
-    let room = room_of(tally, width);
-    if room <= 0 {
-        return false;
-    }
-    let spread = scaled(weight(student_of(tally.observations)), spread_of(tally));
-    spread < scaled(freedom(tally), squared_room(room))
+// An attempt's numbers and its tolerance D, in their ranges.
+#[derive(Clone, Copy)]
+struct Judged {
+    tally: Tally,
+    width: u32,
+    ghost few: { tally.observations ≤ 48 },
+    ghost high: { width ≤ 10000000 },
 }
 
-// Quantity control of an attempt's numbers under a tolerance.
+impl Judged {
+    // W = N D - 10,000 |S|, or 0 where that is negative.
+    fn room(self) -> u32
+        ensures { result ≡ self.tally.observations * self.width - 10000 * unsigned_abs self.tally.sum }
+    {
+        let Judged { tally, width, .. } = self;
+        (tally.observations * width).saturating_sub(SCALE.saturating_mul(tally.sum.unsigned_abs()))
+    }
+
+    // Whether the mean and the spread of the errors leave room in the tolerance. At equality they do not.
+    fn leaves_room(self) -> bool
+        ensures { result ≡ spread_leaves_room self.width self.tally }
+    {
+        let room = self.room();
+        let tally = self.tally;
+        let spread = scaled(weight(student(tally.observations)), spread_of(tally));
+        room > 0 && spread < scaled(freedom(tally), i128::from(product(room, room)))
+    }
+}
+
+// Quantity control of an attempt's numbers under a tolerance. Callers hold numbers that no Attempt or Tolerance carries, so
+// both bounds are asked of them.
 pub fn quantity_control(tally: Tally, width: u32) -> Verdict
     requires few { tally.observations ≤ 48 }
     requires high { width ≤ 10000000 }
     ensures { result ≡ quantity_verdict width tally }
 {
-    if tally.wild || tally.observations < 2 {
-        return Verdict::Unfit;
-    }
-    if tally.sum == 0 || leaves_room(tally, width) {
-        Verdict::Fit
-    } else {
-        Verdict::Unfit
-    }
+    let enough = !tally.wild && tally.observations >= 2;
+    Verdict::from(enough && (tally.sum == 0 || Judged { tally, width }.leaves_room()))
 }
 
 // Whether the systematic part of the errors dominates their spread. At equality it does not.
 pub fn is_dominant(tally: Tally) -> bool
     ensures { result ≡ dominant tally }
 {
-    if tally.wild {
-        return false;
-    }
-    let systematic = scaled(freedom(tally), square_of(tally.sum) as i128);
+    let systematic = scaled(freedom(tally), i128::from(square_of(tally.sum)));
     let spread = scaled(64 * u64::from(tally.observations), spread_of(tally));
-    systematic > spread
+    !tally.wild && systematic > spread
 }

@@ -1,6 +1,6 @@
-// The numbers of an attempt.
+// The numbers of an attempt. A list of any length has such numbers, so an attempt's bounds (`Sound`) stand where attempts do, and not here.
 
-#[derive(Clone, Copy)]
+#[derive(Clone, Copy, PartialEq, Eq, Debug)]
 pub struct Tally {
     pub observations: u32,
     // those out of tolerance

@@ -8,7 +8,7 @@ use method::Plan;
 use method::measures::SCALE;
 
 // D, in ten-thousandths of a tenth.
-#[derive(Clone, Copy)]
+#[derive(Clone, Copy, PartialEq, Eq, Debug)]
 pub struct Tolerance {
     pub(crate) width: u32,
     ghost some: { 1 ≤ width },
@@ -26,18 +26,7 @@ fn coefficient_of<P: Plan>(plan: &P, distribution: Distribution) -> u32
     }
 }
 
-// 10,000 P - K E.
-fn narrowed(k: u32, meter: u32, reference: u32) -> u32
-    requires share { k ≤ 9999 }
-    requires permits { Permits meter reference }
-    ensures is { result ≡ tolerance_with k meter reference }
-    ensures some { 1 ≤ result }
-    ensures high { result ≤ 10000000 }
-{
-    SCALE * meter - k * reference
-}
-
-// D under a plan, from permitted errors that were accepted.
+// D = 10,000 P - K E under a plan, from permitted errors that were accepted.
 pub fn tolerance_width<P: Plan>(
     plan: &P,
     distribution: Distribution,
@@ -49,7 +38,7 @@ pub fn tolerance_width<P: Plan>(
     ensures some { 1 ≤ result }
     ensures high { result ≤ 10000000 }
 {
-    narrowed(coefficient_of(plan, distribution), meter, reference)
+    SCALE * meter - coefficient_of(plan, distribution) * reference
 }
 
 impl Tolerance {

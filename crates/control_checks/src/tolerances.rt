@@ -4,27 +4,20 @@ use control::{Distribution, Permitted, Tolerance};
 use method::{Question, ThreeStep};
 use std::test::Fail;
 
-// The number of the question that refuses the permitted errors, or 0.
-fn refusal(meter: i32, reference: i32) -> u8 {
-    match Permitted::new(meter, reference) {
-        Ok(_) => 0,
-        Err(question) => question.number(),
-    }
+fn refusal(meter: i32, reference: i32) -> Option<Question> {
+    Permitted::new(meter, reference).err()
 }
 
 #[test]
 fn permitted_errors_are_asked_in_order(rt: HostRuntime) {
-    assert_eq!(rt; refusal(1, 0), 0);
-    assert_eq!(rt; refusal(1_000, 1_000), 0);
-    assert_eq!(rt; refusal(0, 0), Question::MeterErrorInRange.number());
-    assert_eq!(rt; refusal(1_001, 0), Question::MeterErrorInRange.number());
-    assert_eq!(rt; refusal(i32::MIN, -1), Question::MeterErrorInRange.number());
-    assert_eq!(rt; refusal(5, 6), Question::ReferenceErrorInRange.number());
-    assert_eq!(rt; refusal(5, -1), Question::ReferenceErrorInRange.number());
-    assert_eq!(rt;
-        refusal(5, i32::MAX),
-        Question::ReferenceErrorInRange.number()
-    );
+    assert_eq!(rt; refusal(1, 0), None);
+    assert_eq!(rt; refusal(1_000, 1_000), None);
+    assert_eq!(rt; refusal(0, 0), Some(Question::MeterErrorInRange));
+    assert_eq!(rt; refusal(1_001, 0), Some(Question::MeterErrorInRange));
+    assert_eq!(rt; refusal(i32::MIN, -1), Some(Question::MeterErrorInRange));
+    assert_eq!(rt; refusal(5, 6), Some(Question::ReferenceErrorInRange));
+    assert_eq!(rt; refusal(5, -1), Some(Question::ReferenceErrorInRange));
+    assert_eq!(rt; refusal(5, i32::MAX), Some(Question::ReferenceErrorInRange));
 }
 
 #[test]

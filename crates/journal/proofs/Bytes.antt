@@ -1,11 +1,18 @@
 -- The bytes of a number.
-use Rattle.std.proofs.Common.{◌≡◌, ℕ, zero, suc, ◌+◌, ◌-◌, ◌*◌, ◌/◌, ◌%◌, ◌^◌, ◌<◌, ◌≤◌, List, [], ◌∷◌, ◌++◌, length, get_or, take, drop, set, sym, refl, ap, ◌∙◌, zero-add, add-one, arith, take_all}
+use Rattle.std.proofs.Common.{◌≡◌, ℕ, zero, suc, ◌+◌, ◌-◌, ◌*◌, ◌/◌, ◌%◌, ◌^◌, ◌<◌, ◌≤◌, List, [], ◌∷◌, ◌++◌, length, get_or, take, drop, sym, refl, ap, ◌∙◌, zero-add, add-one, add-zero, mul_assoc, arith, replicate}
+use Rattle.std.proofs.Math.Nat.{pow-suc}
+use Rattle.std.specs.Int.{w128, bytes_high_first, from_be_bytes, to_be_bytes}
 use native.Mathlib.Nat.{div-div-eq-div-mul}
 use lib.Arith.{digits_lt}
 use Rattle.std.proofs.lemmas.Nat.{pow-add, shr_below, shr-shr, div-mul-add}
-use Rattle.std.proofs.lemmas.List.{take_more, get_or_append_left, get_or_at}
-use Rattle.std.proofs.lemmas.List.Edits.{paste_more}
+use Rattle.std.proofs.lemmas.List.{take_rest, take_more, get_or_append_left, get_or_at, get_or-append-add, get_or-drop, get_or-replicate}
 use Rattle.journal.specs.Bits.{bytes_of, word_of}
+
+powers : (k : ℕ) → 256 ^ k ≡ 2 ^ (8 * k)
+powers zero = refl
+powers (suc k) =
+    let e : 8 * suc k ≡ 8 * k + 8 = omega arith in
+    pow-suc 256 k ∙ ap (λ x. x * 256) (powers k) ∙ sym (ap (λ i. 2 ^ i) e ∙ pow-add 2 (8 * k) 8)
 
 pub length_bytes_of : (k n : ℕ) → length (bytes_of k n) ≡ k
 length_bytes_of zero n = refl
@@ -16,15 +23,20 @@ getD_bytes_of zero n i h = absurd (omega arith)
 getD_bytes_of (suc k) n zero h = ap (λ j. (n / 2 ^ (8 * j)) % 256) (omega arith)
 getD_bytes_of (suc k) n (suc i) h = getD_bytes_of k n i (omega arith) ∙ ap (λ j. (n / 2 ^ (8 * j)) % 256) (omega arith)
 
--- the step and the end of a loop that writes them at the front of d
-pub lay_more : (d out : List ℕ) (k n i : ℕ) → i < k → k ≤ length d → out ≡ take i (bytes_of k n) ++ drop i d → set out i ((n / 2 ^ (8 * (k - 1 - i))) % 256) ≡ take (i + 1) (bytes_of k n) ++ drop (i + 1) d
-lay_more d out k n i lt le e =
-    let len = length_bytes_of k n in
-    let more = simp zero-add at (paste_more d 0 (bytes_of k n) i 0 (omega arith) (omega (arith, len))) in
-    rw (e, ← getD_bytes_of k n i lt) more
+-- the last k of the bytes that std writes a number in
+high_first : (k n : ℕ) → bytes_high_first k n ≡ bytes_of k n
+high_first zero n = refl
+high_first (suc zero) n = ap (λ x. x % 256 ∷ []) (let e : n ≡ n / 1 = omega arith in e)
+high_first (suc (suc k)) n = rw (high_first (suc k) n) (ap (λ p. (n / p) % 256 ∷ bytes_of (suc k) n) (powers (suc k)))
 
-pub lay_all : (d : List ℕ) (k n : ℕ) → take k (bytes_of k n) ++ drop k d ≡ bytes_of k n ++ drop k d
-lay_all d k n = ap (λ t. t ++ drop k d) (take_all k (bytes_of k n) (omega (arith, length_bytes_of k n)))
+last_bytes : (j k n : ℕ) → drop j (bytes_high_first (j + k) n) ≡ bytes_of k n
+last_bytes zero k n = ap (λ i. bytes_high_first i n) (zero-add k) ∙ high_first k n
+last_bytes (suc j) k n = ap (λ i. drop (suc j) (bytes_high_first i n)) (let e : suc j + k ≡ suc (j + k) = omega arith in e) ∙ last_bytes j k n
+
+pub low_bytes : (k n : ℕ) → k ≤ 16 → take (16 - (16 - k)) (drop (16 - k) (to_be_bytes w128 n)) ≡ bytes_of k n
+low_bytes k n le =
+    let e : 16 ≡ 16 - k + k = omega arith in
+    take_rest (bytes_high_first 16 n) (16 - k) ∙ ap (λ i. drop (16 - k) (bytes_high_first i n)) e ∙ last_bytes (16 - k) k n
 
 -- one byte more at the end
 byte_above : (k n b : ℕ) → b < 256 → ((n * 256 + b) / 2 ^ (8 * suc k)) % 256 ≡ (n / 2 ^ (8 * k)) % 256
@@ -42,9 +54,33 @@ bytes_of_word_of zero bs le small = refl
 bytes_of_word_of (suc k) bs le small =
     bytes_of_push k (word_of k bs) (get_or bs k 0) (small k) ∙ ap (λ t. t ++ (get_or bs k 0 ∷ [])) (bytes_of_word_of k bs (omega arith) small) ∙ sym (rw add-one at (take_more bs k 0 (omega arith)))
 
+-- bytes as std reads them, and with zeros behind them
+big_endian_is : (bs : List ℕ) → from_be_bytes w128 bs ≡ word_of 16 bs
+big_endian_is bs = omega arith
+
 pub word_of_append : (k : ℕ) (xs ys : List ℕ) → k ≤ length xs → word_of k (xs ++ ys) ≡ word_of k xs
 word_of_append zero xs ys le = refl
 word_of_append (suc k) xs ys le = rw (word_of_append k xs ys (omega arith), get_or_append_left xs ys 0 k (omega arith)) refl
+
+padded : (bs zs : List ℕ) (j : ℕ) → ((i : ℕ) → i < j → get_or zs i 0 ≡ 0) → word_of (length bs + j) (bs ++ zs) ≡ word_of (length bs) bs * 2 ^ (8 * j)
+padded bs zs zero none = ap (λ k. word_of k (bs ++ zs)) (add-zero (length bs)) ∙ word_of_append (length bs) bs zs (omega arith) ∙ (let e : word_of (length bs) bs ≡ word_of (length bs) bs * 1 = omega arith in e)
+padded bs zs (suc j) none =
+    let e : length bs + suc j ≡ suc (length bs + j) = omega arith in
+    let last : get_or (bs ++ zs) (length bs + j) 0 ≡ 0 = get_or-append-add bs zs j 0 ∙ none j (omega arith) in
+    let here = padded bs zs j (λ i lt. none i (omega arith)) in
+    let p : 2 ^ (8 * suc j) ≡ 2 ^ (8 * j) * 256 = ap (λ i. 2 ^ i) (let i : 8 * suc j ≡ 8 * j + 8 = omega arith in i) ∙ pow-add 2 (8 * j) 8 in
+    ap (λ k. word_of k (bs ++ zs)) e ∙ (let sum : word_of (length bs + j) (bs ++ zs) * 256 + get_or (bs ++ zs) (length bs + j) 0 ≡ word_of (length bs) bs * 2 ^ (8 * j) * 256 = omega (arith, here, last) in sum) ∙ mul_assoc (word_of (length bs) bs) (2 ^ (8 * j)) 256 ∙ ap (λ x. word_of (length bs) bs * x) (sym p)
+
+-- the number of bytes at the head of sixteen, but for their first four bits
+pub headed_bytes : (bs : List ℕ) → length bs ≤ 16 → from_be_bytes w128 (bs ++ drop (length bs) (replicate 16 0)) * 16 ≡ word_of (length bs) bs * 2 ^ (132 - 8 * length bs)
+headed_bytes bs le =
+    let k = length bs in
+    let j = 16 - k in
+    let all = bs ++ drop k (replicate 16 0) in
+    let sixteen : 16 ≡ k + j = omega arith in
+    let none : (i : ℕ) → i < j → get_or {A = ℕ} (drop k (replicate 16 0)) i 0 ≡ 0 = λ i lt. get_or-drop k (replicate 16 0) i 0 ∙ get_or-replicate {A = ℕ} 16 (k + i) 0 0 (omega arith) in
+    let whole : from_be_bytes w128 all ≡ word_of k bs * 2 ^ (8 * j) = big_endian_is all ∙ ap (λ i. word_of i all) sixteen ∙ padded bs (drop k (replicate 16 0)) j none in
+    ap (λ x. x * 16) whole ∙ mul_assoc (word_of k bs) (2 ^ (8 * j)) 16 ∙ ap (λ x. word_of k bs * x) (sym (pow-add 2 (8 * j) 4) ∙ ap (λ i. 2 ^ i) (let e : 8 * j + 4 ≡ 132 - 8 * k = omega arith in e))
 
 -- the number that the bytes of a number are
 pub word_of_bytes_of : (k n : ℕ) → n < 2 ^ (8 * k) → word_of k (bytes_of k n) ≡ n

@@ -4,7 +4,7 @@ use borrow.Rule.Slice.PartMut.{put_mid}
 use Rattle.std.proofs.lemmas.Nat.{pow-add, shl_below, shl_whole, shl-shr, shr-shr, mod_below}
 use Rattle.std.proofs.lemmas.Bool.{le-leb, leb-true, eq-eqb, eqb-true, and_parts, and_from}
 use Rattle.std.proofs.lemmas.Bool.Decides.{nat_tests}
-use Rattle.std.proofs.lemmas.List.{drop_all, drop-drop, length-drop, take_rest, take-append-drop, get_or_append_left}
+use Rattle.std.proofs.lemmas.List.{drop_all, drop-drop, length-drop, take_rest, take-append-drop, length-take-le, get_or_append_left}
 use Rattle.method.specs.declared.question.Question.{Question}
 use Rattle.method.specs.declared.question.Question.TheVariants.{AllBytesThere, FieldsInRange, FillZero, FitsBuffer}
 use Rattle.journal.specs.declared.bits.Packing.{Packing}
@@ -17,10 +17,10 @@ use Rattle.journal.specs.Cursor.{put, put_all, take_all, behind_all, packed, hea
 use Rattle.journal.specs.Fields.{all_in_range, kind_number, coded}
 use Rattle.journal.specs.Format.{Format, Sound, legal, row, all_numbers, fill, word, encoded}
 use Rattle.journal.specs.Writing.{answered, laid}
-use Rattle.journal.specs.Reading.{fault, kind_of, meant, opened, decoded, Bytes, ReadsBack, ReadsOnly}
+use Rattle.journal.specs.Reading.{fault, kind_of, ranged, meant, opened, decoded, Bytes, ReadsBack, ReadsOnly}
 use Rattle.journal.proofs.Bytes.{bytes_of_word_of, word_of_bytes_of, word_of_append, word_of_lt, length_bytes_of, getD_bytes_of, word_of_top}
 use Rattle.journal.proofs.Places.{lifted, by_places, eqb_shifted}
-use Rattle.journal.specs.Rows.{packed_lt, put_all_is, code_first, rest_behind, row_of, length_take_all, taken, only}
+use Rattle.journal.specs.Rows.{packed_lt, put_all_is, code_first, rest_behind, row_of, length_take_all, taken, only, flagged}
 
 refused : (a b : Bool) (n : ℕ) (q : Question) (old new : List ℕ) → Err q ≡ cond a (cond b (Ok n) (Err FitsBuffer)) (Err FieldsInRange) → old ≡ cond (a && b) new old
 refused true true n q old new h = let z : ◌≡◌ {A = ℕ} 0 1 = cc in absurd (omega arith)
@@ -32,8 +32,12 @@ granted true true n k h = (refl, refl, cc)
 granted true false n k h = let z : ◌≡◌ {A = ℕ} 0 1 = cc in absurd (omega arith)
 granted false b n k h = let z : ◌≡◌ {A = ℕ} 0 1 = cc in absurd (omega arith)
 
-pub headed_is : {F : Type 0} (m : Format F) (bs : List ℕ) (w l : ℕ) → w ≡ word_of m.size bs → l ≡ m.size → ◌≡◌ {A = Unpacking} (record { word = (w * 2 ^ (132 - 8 * l)) % 2 ^ 128; in_range = true }) (headed m bs)
-headed_is m bs w l we le = rw (we, le) refl
+pub headed_is : {F : Type 0} (m : Format F) (bs front : List ℕ) → m.size ≤ length bs → front ≡ take m.size bs → ◌≡◌ {A = Unpacking} (record { word = (word_of (length front) front * 2 ^ (132 - 8 * length front)) % 2 ^ 128; in_range = true }) (headed m bs)
+headed_is m bs front le e =
+    let len : length front ≡ m.size = ap length e ∙ length-take-le m.size bs le in
+    let split = take-append-drop m.size bs in
+    let same : word_of m.size front ≡ word_of m.size bs = sym (word_of_append m.size front (drop m.size bs) (omega (arith, len))) ∙ ap (λ x. word_of m.size (x ++ drop m.size bs)) e ∙ ap (word_of m.size) split in
+    rw len (rw same refl)
 
 module _ {F : Type 0} (m : Format F) (s : Sound m) where
   -- as many numbers as fields
@@ -146,9 +150,12 @@ module _ {F : Type 0} (m : Format F) (s : Sound m) where
       let zero_fill : eqb (behind_all m.fields (headed m bs)).word 0 ≡ eqb (n % 2 ^ fill m) 0 = ap (λ x. eqb x 0) rest ∙ eqb_shifted (n % 2 ^ fill m) (128 - fill m) in
       sym (ap (λ x. cond x (meant m p (take_all m.fields (headed m bs))) (Err (fault FillZero Bits p))) zero_fill ∙ ap (λ zs. cond (eqb (n % 2 ^ fill m) 0) (meant m p zs) (Err (fault FillZero Bits p))) t.0)
 
-  pub decoded_by_cursor : (p : Place) (bs : List ℕ) → decoded m p bs ≡ cond (leb m.size (length bs)) (unpacked p (headed m bs)) (Err (fault AllBytesThere Kind p))
+  decoded_by_cursor : (p : Place) (bs : List ℕ) → decoded m p bs ≡ cond (leb m.size (length bs)) (unpacked p (headed m bs)) (Err (fault AllBytesThere Kind p))
   unfolding decoded
   decoded_by_cursor p bs = ap (λ x. cond (leb m.size (length bs)) x (Err (fault AllBytesThere Kind p))) (as_cursor p bs)
+
+  pub decoded_by_layers : (p : Place) (bs : List ℕ) → decoded m p bs ≡ cond (leb m.size (length bs)) (cond (eqb (behind_all m.fields (headed m bs)).word 0) (ranged ((behind_all m.fields (headed m bs)).in_range && m.related (m.made (take_all m.fields (headed m bs)))) (m.made (take_all m.fields (headed m bs))) p) (Err (fault FillZero Bits p))) (Err (fault AllBytesThere Kind p))
+  decoded_by_layers p bs = rw (flagged m.fields (headed m bs)) (decoded_by_cursor p bs)
 
   pub reads_back : ReadsBack m
   reads_back p f rest h =

@@ -1,7 +1,7 @@
 -- Records one behind another: what is written is read again, and nothing else.
 use Rattle.std.proofs.Common.{◌≡◌, ℕ, zero, suc, ◌+◌, ◌-◌, ◌/◌, ◌<◌, ◌≤◌, Bool, true, false, cond, eqb, List, [], ◌∷◌, ◌++◌, length, get_or, take, drop, Some, None, Ok, Err, Option, Result, sym, refl, ap, ◌∙◌, subst, append_assoc, append-nil, add-zero, arith, length-append}
 use Rattle.std.proofs.lemmas.Bool.{eq-eqb, ne_eqb, eqb-true, and_parts, and_from, le-leb}
-use Rattle.std.proofs.lemmas.List.{drop_all, drop-drop, length-drop, take_rest, drop_at, take_at, length-take-le, take-append-drop}
+use Rattle.std.proofs.lemmas.List.{drop_all, drop-drop, length-drop, take_rest, drop_at, take_at, length-take-le, take-append-drop, get_or-drop}
 use Rattle.journal.specs.declared.fault.Fault.{Fault}
 use Rattle.journal.specs.declared.fault.Place.{Place}
 use Rattle.journal.specs.declared.record.Record.{Record}
@@ -65,11 +65,6 @@ pub any_whole : (at : Place) (bs : List ℕ) (r : Record) → decoded_any at bs 
 any_whole at bs r =
     any_of (λ q. length (record_bytes q) ≤ length bs) at bs r (λ F m s c is f k e. omega (arith, reads_whole m s at bs f e, ap length (is f).1, length_encoded m s f))
 
-get_d_drop : (p i : ℕ) (bs : List ℕ) → Bytes bs → get_or (drop p bs) i 0 < 256
-get_d_drop zero i bs small = small i
-get_d_drop (suc p) i [] small = omega arith
-get_d_drop (suc p) i (b ∷ bs) small = get_d_drop p i bs (λ j. small (suc j))
-
 pub next_end : (bs : List ℕ) (p n : ℕ) → p ≡ length bs → next_of bs p n ≡ Ok None
 next_end bs p n e = rw (eq-eqb p (length bs) e) refl
 
@@ -132,7 +127,7 @@ only_from (q ∷ qs) bs p n small le e =
     let is : next_of bs p n ≡ Ok (Some q) = ap head_of e in
     let t = next_some bs p n (eqb p (length bs)) (decoded_any (place_of p n) (drop p bs)) q is in
     let r = q.«record» in
-    let front = any_only (place_of p n) (drop p bs) r (λ i. get_d_drop p i bs small) t.0 in
+    let front = any_only (place_of p n) (drop p bs) r (λ i. rw get_or-drop (small (p + i))) t.0 in
     let whole = any_whole (place_of p n) (drop p bs) r t.0 in
     let rest = only_from qs bs (p + length (record_bytes r)) (n + 1) small (omega (arith, length-drop p bs)) (ap (λ x. answers (suc (length qs)) bs (p + span x) (n + count x)) (sym is) ∙ ap (drop 1) e) in
     (r ∷ rest.0, and_from (legal_record r) (all_legal rest.0) front.0 rest.1, front.1 ∙ ap (λ x. record_bytes r ++ x) (drop-drop (length (record_bytes r)) p bs ∙ rest.2), ap (λ x. x ∷ qs) t.1 ∙ ap (λ x. record { place = place_of p n; «record» = r } ∷ x) rest.3)
@@ -148,9 +143,6 @@ pub record Read (bs : List ℕ) (p n : ℕ) : Type 0 where
   pub at : p ≡ length (journal_bytes rs)
   pub many : n ≡ length rs
 
-pub read_none : (bs : List ℕ) → Read bs 0 0
-read_none bs = record { rs = []; legal = refl; bytes = refl; at = refl; many = refl }
-
 bytes_more : (rs : List Record) (r : Record) → journal_bytes (rs ++ (r ∷ [])) ≡ journal_bytes rs ++ record_bytes r
 bytes_more [] r = append-nil (record_bytes r)
 bytes_more (q ∷ rs) r = ap (λ x. record_bytes q ++ x) (bytes_more rs r) ∙ sym (append_assoc (record_bytes q) (journal_bytes rs) (record_bytes r))
@@ -163,7 +155,7 @@ pub read_more : (bs : List ℕ) (p n : ℕ) (q : Placed) → Bytes bs → Read b
 read_more bs p n q small old is =
     let t = next_some bs p n (eqb p (length bs)) (decoded_any (place_of p n) (drop p bs)) q is in
     let r = q.«record» in
-    let front = any_only (place_of p n) (drop p bs) r (λ i. get_d_drop p i bs small) t.0 in
+    let front = any_only (place_of p n) (drop p bs) r (λ i. rw get_or-drop (small (p + i))) t.0 in
     let more = bytes_more old.rs r in
     record {
       rs = old.rs ++ (r ∷ []);

@@ -1,4 +1,3 @@
-pub mod Steps
 pub mod Bytes
 pub mod Places
 pub mod Formats

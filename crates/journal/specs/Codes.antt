@@ -1,7 +1,11 @@
 -- The numbers that stand for named values, and the values that numbers in range stand for.
-use Rattle.std.specs.Prelude.{ℕ, Bool, true, false, cond, ℤ, pos, negsuc, ◌==◌}
+use Rattle.std.specs.Prelude.{◌≡◌, ℕ, Bool, true, false, cond, ℤ, pos, negsuc, Some, None, Ok, Err, Option, Result, ◌==◌, refl}
+use Rattle.method.specs.declared.question.Question.{Question}
+use Rattle.method.specs.declared.question.Question.TheVariants.{FieldsInRange}
 use Rattle.method.specs.declared.verdict.Verdict.{Verdict}
 use Rattle.method.specs.declared.verdict.Verdict.TheVariants.{Fit, Unfit}
+use Rattle.journal.specs.Fields.{in_range}
+use Rattle.journal.specs.declared.field.Field.{Field}
 use Rattle.journal.specs.declared.codes.FirstAttempt.{FirstAttempt}
 use Rattle.journal.specs.declared.codes.FirstAttempt.TheVariants.{Absent, SequenceAlone, QuantityAlone, ShortUnfit}
 use Rattle.journal.specs.declared.codes.Quantity.{Quantity}
@@ -35,6 +39,12 @@ quantity_code QuantityUnfit = pos 2
 abbrev pub quantity_of : ℤ → Quantity
 quantity_of z = cond (is 1 z) QuantityFit (cond (is 2 z) QuantityUnfit NotAsked)
 
+-- what quantity control found, of a verdict if it was asked
+abbrev pub quantity_found : Option Verdict → Quantity
+quantity_found None = NotAsked
+quantity_found (Some Fit) = QuantityFit
+quantity_found (Some Unfit) = QuantityUnfit
+
 -- the signals of the manual stage
 abbrev pub signal_code : Signal → ℤ
 signal_code Inspection = pos 1
@@ -62,3 +72,32 @@ flag_code false = pos 0
 -- and back
 abbrev pub flag_of : ℤ → Bool
 flag_of z = is 1 z
+
+-- the value that a number stands for, if the number is in its field's range
+abbrev pub value_in : {A : Type 0} → Field → (ℤ → A) → ℤ → Result A Question
+value_in f of z = cond (in_range f z) (Ok (of z)) (Err FieldsInRange)
+
+-- Each value is the one that its number stands for.
+pub flag_back : (b : Bool) → flag_of (flag_code b) ≡ b
+flag_back true = refl
+flag_back false = refl
+
+pub verdict_back : (v : Verdict) → verdict_of (verdict_code v) ≡ v
+verdict_back Fit = refl
+verdict_back Unfit = refl
+
+pub first_back : (a : FirstAttempt) → first_of (first_code a) ≡ a
+first_back Absent = refl
+first_back SequenceAlone = refl
+first_back QuantityAlone = refl
+first_back ShortUnfit = refl
+
+pub quantity_back : (q : Quantity) → quantity_of (quantity_code q) ≡ q
+quantity_back NotAsked = refl
+quantity_back QuantityFit = refl
+quantity_back QuantityUnfit = refl
+
+pub signal_back : (s : Signal) → signal_of (signal_code s) ≡ s
+signal_back Inspection = refl
+signal_back Trial = refl
+signal_back Insulation = refl

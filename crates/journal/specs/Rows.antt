@@ -1,7 +1,8 @@
 -- Fields in a row of bits: put behind one another they are one number, and taken off it they are the same again.
-use Rattle.std.specs.Prelude.{◌≡◌, ℕ, suc, ◌+◌, ◌-◌, ◌*◌, ◌/◌, ◌%◌, ◌^◌, ◌<◌, ◌≤◌, Bool, true, false, ◌&&◌, List, [], ◌∷◌, length, ℤ, refl}
+use Rattle.std.specs.Prelude.{◌≡◌, ℕ, suc, ◌+◌, ◌-◌, ◌*◌, ◌/◌, ◌%◌, ◌^◌, ◌<◌, ◌≤◌, Bool, true, ◌&&◌, List, [], ◌∷◌, length, ℤ, refl}
 use Rattle.std.proofs.Common.{sym, ap, ◌∙◌, arith, add-zero, zero-add, add_assoc, add-mul, mul_assoc, zero-mul}
 use Rattle.std.proofs.Math.Arith.{digits_lt}
+use Rattle.std.proofs.Math.Bool.{and_assoc, and-true}
 use Rattle.std.proofs.lemmas.Nat.{pow-add, shl_whole, shl_below, shl-shr, shr_split, shr_high, mod_low, mod_below}
 use Rattle.std.proofs.lemmas.Bool.{and_parts}
 use Rattle.journal.specs.Bits.{packed_after, width}
@@ -48,18 +49,10 @@ after n (f ∷ fs) (z ∷ zs) e =
 above : (f : Field) (z : ℤ) (fs : List Field) (zs : List ℤ) → length zs ≡ length fs → packed_after 0 (f ∷ fs) (z ∷ zs) ≡ coded f.width z * 2 ^ width fs + packed_after 0 fs zs
 above f z fs zs e = let n : 0 * 2 ^ f.width + coded f.width z ≡ coded f.width z = omega arith in ap (λ x. packed_after x fs zs) n ∙ after (coded f.width z) fs zs e
 
-and_assoc : (a b c : Bool) → (a && b) && c ≡ a && (b && c)
-and_assoc true b c = refl
-and_assoc false b c = refl
-
-and_true : (a : Bool) → a && true ≡ a
-and_true true = refl
-and_true false = refl
-
 pub put_all_is : (fs : List Field) (zs : List ℤ) (n l k : ℕ) (r : Bool) → length zs ≡ length fs → n < 2 ^ k → k + width fs ≤ 128 → put_all fs zs (record { word = n; left = l; in_range = r }) ≡ record { word = packed_after n fs zs; left = l - width fs; in_range = r && all_in_range fs zs }
 unfolding put
 put_all_is [] [] n l k r e h le =
-    ap (λ x. record { word = n; left = x; in_range = r }) (let z : l ≡ l - 0 = omega arith in z) ∙ ap (λ x. record { word = n; left = l - 0; in_range = x }) (sym (and_true r))
+    ap (λ x. record { word = n; left = x; in_range = r }) (let z : l ≡ l - 0 = omega arith in z) ∙ ap (λ x. record { word = n; left = l - 0; in_range = x }) (sym (and-true r))
 put_all_is [] (z ∷ zs) n l k r e h le = absurd (omega arith)
 put_all_is (f ∷ fs) [] n l k r e h le = absurd (omega arith)
 put_all_is (f ∷ fs) (z ∷ zs) n l k r e h le =
@@ -144,6 +137,6 @@ only (f ∷ fs) r q le h e =
 -- the flag tells whether each number that was taken was in its range
 pub flagged : (fs : List Field) (b : Unpacking) → (behind_all fs b).in_range ≡ b.in_range && all_in_range fs (take_all fs b)
 unfolding first behind
-flagged [] b = sym (and_true b.in_range)
+flagged [] b = sym (and-true b.in_range)
 flagged (f ∷ fs) b =
     flagged fs (behind f b) ∙ and_assoc b.in_range (in_range f (told f (b.word / 2 ^ (128 - f.width)))) (all_in_range fs (take_all fs (behind f b)))

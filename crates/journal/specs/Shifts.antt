@@ -28,6 +28,10 @@ put_below n v w le lt =
     let all : 2 ^ (128 - w) * 2 ^ w ≡ 2 ^ 128 = sym (pow-add 2 (128 - w) w) ∙ ap (λ k. 2 ^ k) e in
     rw (shifted n w le) (omega (arith, below, all))
 
+-- the same of a code
+pub code_below : (n w : ℕ) (z : ℤ) (code : ℕ) → w ≤ 30 → code ≡ coded w z → (n * 2 ^ w) % 2 ^ 128 + code < 2 ^ 128
+code_below n w z code le is = put_below n code w (omega arith) (code_lt w z code is)
+
 pub first_below : (n w : ℕ) → w ≤ 128 → n < 2 ^ 128 → n / 2 ^ (128 - w) < 2 ^ w
 first_below n w le small =
     let e : 128 ≡ w + (128 - w) = omega arith in

@@ -1,40 +1,15 @@
 -- Each kind is sound: its fields are told by its numbers, and its numbers by its fields.
-use Rattle.std.specs.Prelude.{◌≡◌, ℕ, zero, suc, ◌<◌, Bool, true, false, List, [], ◌∷◌, length, ℤ, pos, negsuc, slice_index_or, refl}
+use Rattle.std.specs.Prelude.{◌≡◌, ℕ, zero, suc, ◌<◌, true, List, [], ◌∷◌, length, ℤ, pos, negsuc, slice_index_or, refl}
 use Rattle.std.proofs.Common.{ap, ◌∙◌, arith, rules}
-use Rattle.method.specs.declared.verdict.Verdict.{Verdict}
-use Rattle.method.specs.declared.verdict.Verdict.TheVariants.{Fit, Unfit}
 use Rattle.std.proofs.lemmas.Bool.{and_parts}
 use Rattle.std.proofs.lemmas.Bool.Decides.{nat_tests}
-use Rattle.journal.specs.Codes.{first_code, first_of, quantity_code, quantity_of, verdict_code, verdict_of, flag_code, flag_of}
+use Rattle.journal.specs.Codes.{first_back, flag_back, quantity_back, verdict_back, first_code, first_of, quantity_code, quantity_of, verdict_code, verdict_of, flag_code, flag_of}
 use Rattle.journal.specs.Fields.{in_range, all_in_range, first_attempt, quantity, flag}
 use Rattle.journal.specs.Format.{Sound}
 use Rattle.journal.specs.Kinds.{sequence, three_step, certificate, notice, at}
 use Rattle.journal.specs.declared.field.Field.{Field}
-use Rattle.journal.specs.declared.codes.FirstAttempt.{FirstAttempt}
-use Rattle.journal.specs.declared.codes.FirstAttempt.TheVariants.{Absent, SequenceAlone, QuantityAlone, ShortUnfit}
-use Rattle.journal.specs.declared.codes.Quantity.{Quantity}
-use Rattle.journal.specs.declared.codes.Quantity.TheVariants.{NotAsked, Fit as QuantityFit, Unfit as QuantityUnfit}
 use Rattle.journal.specs.declared.sequence.SequenceFields.{SequenceFields}
 use Rattle.journal.specs.Rows.{in_range_length}
-
-first_back : (x : FirstAttempt) → first_of (first_code x) ≡ x
-first_back Absent = refl
-first_back SequenceAlone = refl
-first_back QuantityAlone = refl
-first_back ShortUnfit = refl
-
-quantity_back : (x : Quantity) → quantity_of (quantity_code x) ≡ x
-quantity_back NotAsked = refl
-quantity_back QuantityFit = refl
-quantity_back QuantityUnfit = refl
-
-verdict_back : (x : Verdict) → verdict_of (verdict_code x) ≡ x
-verdict_back Fit = refl
-verdict_back Unfit = refl
-
-flag_back : (x : Bool) → flag_of (flag_code x) ≡ x
-flag_back true = refl
-flag_back false = refl
 
 first_only : (z : ℤ) → in_range first_attempt z ≡ true → first_code (first_of z) ≡ z
 first_only (pos n) h = grind (arith, nat_tests)

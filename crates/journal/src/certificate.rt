@@ -1,12 +1,12 @@
 // The certificate: how a verification ended.
 ghost use Rattle.journal.specs.Kinds.{certificate, earned};
-ghost use Rattle.std.specs.Prelude.{◌≡◌};
+ghost use Rattle.std.specs.Prelude.{◌≡◌, refl};
 ghost use Rattle.journal.specs.Sounds.{certificate_sound};
 
 use crate::bits::{Packing, Unpacking};
-use crate::codes::{verdict_code, verdict_of};
+use crate::coded::Coded;
 use crate::fields::{CLOSED, CODES_ACCEPTED, FLAG, POINT, UNFIT};
-use crate::kind::{Head, RecordKind};
+use crate::kind::RecordKind;
 use method::Verdict;
 
 #[derive(Clone, Copy, PartialEq, Eq, Debug)]
@@ -22,10 +22,21 @@ pub struct CertificateFields {
 fn earned(fields: &CertificateFields) -> Verdict
     ensures { result ≡ earned fields.now }
 {
-    if fields.unfit == 0 && fields.closed == fields.declared {
-        Verdict::Fit
-    } else {
-        Verdict::Unfit
+    Verdict::from(fields.unfit == 0 && fields.closed == fields.declared)
+}
+
+impl CertificateFields {
+    // The numbers of the fields, in the order in which they are written.
+    pub fn numbers(&self) -> [i32; 5]
+        ensures { result ≡ certificate.numbers self.now }
+    {
+        [
+            self.declared,
+            self.closed,
+            self.unfit,
+            self.verdict.code(),
+            self.codes_accepted,
+        ]
     }
 }
 
@@ -38,22 +49,15 @@ impl RecordKind for Certificate {
 
     const LENGTH: usize = 8;
 
+    ghost NUMBER = { certificate.number };
+
+    ghost LENGTH = { certificate.size };
+
     ghost format = { certificate };
 
+    ghost consts = { (refl, refl) };
+
     ghost sound = { certificate_sound };
-
-    fn head() -> Head {
-        Head::new(Self::NUMBER, Self::LENGTH)
-    }
-
-    fn apart(bytes: &[u8]) -> Option<(u128, &[u8])> {
-        // Each byte is named by what it holds bits of: declared d, closed c, unfit u, the verdict v, the codes n.
-        let [kind_d, d_c, c_1, u_1, u_v_n, n_1, n_2, n_3, rest @ ..] = bytes else {
-            return None;
-        };
-        let word = u64::from_be_bytes([*kind_d, *d_c, *c_1, *u_1, *u_v_n, *n_1, *n_2, *n_3]);
-        Some((word as u128, rest))
-    }
 
     fn related(fields: &CertificateFields) -> bool {
         fields.closed <= fields.declared
@@ -65,7 +69,7 @@ impl RecordKind for Certificate {
         bits.put(POINT, fields.declared);
         bits.put(CLOSED, fields.closed);
         bits.put(UNFIT, fields.unfit);
-        bits.put(FLAG, verdict_code(fields.verdict));
+        bits.put(FLAG, fields.verdict);
         bits.put(CODES_ACCEPTED, fields.codes_accepted);
     }
 
@@ -74,7 +78,7 @@ impl RecordKind for Certificate {
             declared: bits.take(POINT),
             closed: bits.take(CLOSED),
             unfit: bits.take(UNFIT),
-            verdict: verdict_of(bits.take(FLAG)),
+            verdict: bits.take(FLAG),
             codes_accepted: bits.take(CODES_ACCEPTED),
         }
     }

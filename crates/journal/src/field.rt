@@ -15,10 +15,10 @@ impl Field {
     pub(crate) fn holds(self, number: i32) -> bool
         ensures { result ≡ in_range self number }
     {
-        self.low <= number && number <= self.high
+        (self.low..=self.high).contains(&number)
     }
 
-    // The bits of a number.
+    // The bits of a number. Here and below `as` is proved to lose nothing, and a `try_from` would need an answer for what can't be.
     pub(crate) fn code(self, number: i32) -> u64
         requires { self.width ≤ 30 }
         ensures { result ≡ coded self.width number }

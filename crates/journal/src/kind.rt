@@ -1,25 +1,9 @@
 // What a kind of record is: its number, its length, its fields, and how they lie in its bits.
-ghost use Rattle.std.specs.Prelude.{◌≡◌, ◌-◌, ◌<◌, ◌≤◌, length, take, drop, MatchOption};
-ghost use Rattle.journal.specs.Bits.{word_of};
+ghost use Rattle.std.specs.Prelude.{◌≡◌, ℕ};
 ghost use Rattle.journal.specs.Cursor.{behind_all, put_all, take_all};
 ghost use Rattle.journal.specs.Format.{Format, Sound};
 
 use crate::bits::{Packing, Unpacking};
-
-// A kind's number and how many bytes its records have.
-#[derive(Clone, Copy)]
-pub struct Head {
-    pub(crate) number: u8,
-    pub(crate) length: usize,
-}
-
-impl Head {
-    pub(crate) fn new(number: u8, length: usize) -> Head
-        ensures { result ≡ record { number = number; length = length } }
-    {
-        Head { number, length }
-    }
-}
 
 // A kind is added by writing down its fields. Writing, reading and the proof that they undo each other are common to all.
 pub trait RecordKind {
@@ -27,17 +11,14 @@ pub trait RecordKind {
 
     const NUMBER: u8;
 
+    // How many bytes a record of the kind has.
     const LENGTH: usize;
 
+    ghost NUMBER: { ℕ };
+
+    ghost LENGTH: { ℕ };
+
     ghost format: { Format Self.Fields };
-
-    // The number and the length as values.
-    fn head() -> Head
-        ensures { (result.number ≡ format.number) × (result.length ≡ format.size) };
-
-    // The first bytes as one number, and the bytes behind them; `None` where they are too few.
-    fn apart(bytes: &[u8]) -> Option<(u128, &[u8])>
-        ensures { MatchOption result (length bytes.now < format.size) (λ p. (format.size ≤ length bytes.now) × (p.0 ≡ word_of format.size bytes.now) × (p.1.now ≡ take (length bytes.now - format.size) (drop format.size bytes.now))) };
 
     // Whether the fields agree with one another; each one's own range is asked as it is packed or unpacked.
     fn related(fields: &Self::Fields) -> bool
@@ -51,6 +32,8 @@ pub trait RecordKind {
     fn unpack(bits: &mut Unpacking) -> Self::Fields
         ensures fields { result ≡ format.made (take_all format.fields bits.old) }
         ensures rest { bits.new ≡ behind_all format.fields bits.old };
+
+    ghost consts: { (NUMBER ≡ format.number) × (LENGTH ≡ format.size) };
 
     ghost sound: { Sound format };
 }

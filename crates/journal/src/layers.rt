@@ -1,7 +1,7 @@
 // Reading a record of any kind, by layers.
 ghost use Rattle.std.specs.Prelude.{◌≡◌, ◌+◌, true, false, ◌&&◌, length, Ok, Err, MatchResult, ◌==◌, nat_le};
 ghost use Rattle.journal.specs.Cursor.{behind_all, headed, take_all};
-ghost use Rattle.journal.specs.Reading.{decoded, fault, ranged};
+ghost use Rattle.journal.specs.Reading.{decoded, fault};
 ghost use Rattle.method.specs.declared.question.Question.TheVariants.{AllBytesThere, FieldsInRange, FillZero};
 
 use crate::bits::Unpacking;
@@ -13,18 +13,10 @@ use method::Question;
 fn whole<K: RecordKind>(bytes: &[u8], place: Place) -> Result<(Unpacking, &[u8]), Fault>
     ensures { MatchResult result (λ p. (nat_le K.RecordKind.format.size (length bytes.now) ≡ true) × (p.0 ≡ headed K.RecordKind.format bytes.now) × (length p.1.now + K.RecordKind.format.size ≡ length bytes.now)) (λ e. (nat_le K.RecordKind.format.size (length bytes.now) ≡ false) × (e ≡ fault AllBytesThere Layer.Kind place)) }
 {
-    let Some((word, rest)) = K::apart(bytes) else {
-        return Err(Fault {
-            question: Question::AllBytesThere,
-            layer: Layer::Kind,
-            place,
-        });
-    };
-    let bits = Unpacking {
-        word: word << (132 - 8 * K::head().length),
-        in_range: true,
-    };
-    Ok((bits, rest))
+    let (record, rest) = bytes
+        .split_at_checked(K::LENGTH)
+        .ok_or(place.fault(Question::AllBytesThere, Layer::Kind))?;
+    Ok((Unpacking::behind_kind(record), rest))
 }
 
 // The bit layer: is the fill zero?
@@ -34,11 +26,7 @@ fn unfilled<K: RecordKind>(bits: &mut Unpacking, place: Place) -> Result<K::Fiel
 {
     let fields = K::unpack(bits);
     if bits.word != 0 {
-        return Err(Fault {
-            question: Question::FillZero,
-            layer: Layer::Bits,
-            place,
-        });
+        return Err(place.fault(Question::FillZero, Layer::Bits));
     }
     Ok(fields)
 }
@@ -49,19 +37,16 @@ fn in_range<K: RecordKind>(
     bits: &Unpacking,
     place: Place,
 ) -> Result<K::Fields, Fault>
-    ensures { result ≡ ranged (bits.now.in_range && K.RecordKind.format.related fields) fields place }
+    ensures { MatchResult result (λ f. ((bits.now.in_range && K.RecordKind.format.related fields) ≡ true) × (f ≡ fields)) (λ e. ((bits.now.in_range && K.RecordKind.format.related fields) ≡ false) × (e ≡ fault FieldsInRange Layer.Field place)) }
 {
     if bits.in_range && K::related(&fields) {
         return Ok(fields);
     }
-    Err(Fault {
-        question: Question::FieldsInRange,
-        layer: Layer::Field,
-        place,
-    })
+    Err(place.fault(Question::FieldsInRange, Layer::Field))
 }
 
 // Reads a record of the kind `K` from the front of bytes that begin with its number; answers its fields and the bytes behind it.
+#[tactic(auto, using(crate::proofs::Formats::decoded_by_layers))]
 pub(crate) fn read<K: RecordKind>(bytes: &[u8], place: Place) -> Result<(K::Fields, &[u8]), Fault>
     ensures { MatchResult result (λ p. (decoded K.RecordKind.format place bytes.now ≡ Ok p.0) × (length p.1.now + K.RecordKind.format.size ≡ length bytes.now)) (λ e. decoded K.RecordKind.format place bytes.now ≡ Err e) }
 {

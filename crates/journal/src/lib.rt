@@ -3,6 +3,7 @@
 
 mod bits;
 mod certificate;
+mod coded;
 mod codes;
 mod fault;
 mod field;

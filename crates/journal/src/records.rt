@@ -1,6 +1,7 @@
 // Records of any kind, one behind another: written one by one, and read one by one or through.
 ghost use Rattle.std.specs.Prelude.{◌≡◌, ◌+◌, true, List, length, Ok, Err, MatchResult};
 ghost use Rattle.journal.specs.Journal.{Holds, JournalLaws, Stops, all_legal, by_kind, count, journal_bytes, legal_record, next_of, place_of, record_bytes, span};
+ghost use Rattle.journal.specs.Reading.{decoded};
 ghost use Rattle.journal.specs.Writing.{answered, laid};
 
 use crate::certificate::Certificate;
@@ -20,6 +21,7 @@ pub fn write_record(journal: &mut [u8], place: usize, record: &Record) -> Result
     ensures answer { result ≡ answered (legal_record «record».now) (length (record_bytes «record».now)) place (length journal.old) }
     ensures bytes { journal.new ≡ laid (legal_record «record».now) (record_bytes «record».now) place journal.old }
 {
+    // Each arm names a kind's type, which no value can pick: a method for it in each kind would say the same at more length.
     match record {
         Record::Sequence(fields) => write::<Sequence>(journal, place, fields),
         Record::ThreeStep(fields) => write::<ThreeStep>(journal, place, fields),
@@ -28,32 +30,30 @@ pub fn write_record(journal: &mut [u8], place: usize, record: &Record) -> Result
     }
 }
 
-// The kind layer: is the kind known? Reads the record at the front of `bytes` as that kind, and answers the bytes behind it too.
+// Reads a record of the kind `K` at the front of `bytes`, as a record of any kind.
+fn read_as<K: RecordKind, F: FnOnce(K::Fields) -> Record>(
+    named: F,
+    bytes: &[u8],
+    place: Place,
+) -> Result<(Record, &[u8]), Fault>
+    requires { (f : K.Fields) → F.pre named f }
+    ensures { MatchResult result (λ p. ((f : K.Fields) × (decoded K.RecordKind.format place bytes.now ≡ Ok f) × F.post named f p.0) × (length p.1.now + K.RecordKind.format.size ≡ length bytes.now)) (λ e. decoded K.RecordKind.format place bytes.now ≡ Err e) }
+{
+    let (fields, rest) = read::<K>(bytes, place)?;
+    Ok((named(fields), rest))
+}
+
+// The kind layer: is the kind, a number in the bytes, known? Reads the record at the front of `bytes` as that kind, and answers
+// the bytes behind it too.
 fn read_record(kind: u8, bytes: &[u8], place: Place) -> Result<(Record, &[u8]), Fault>
     ensures { MatchResult result (λ p. (by_kind kind place bytes.now ≡ Ok p.0) × (length p.1.now + length (record_bytes p.0) ≡ length bytes.now)) (λ e. by_kind kind place bytes.now ≡ Err e) }
 {
     match kind {
-        Sequence::NUMBER => {
-            let (fields, rest) = read::<Sequence>(bytes, place)?;
-            Ok((Record::Sequence(fields), rest))
-        }
-        ThreeStep::NUMBER => {
-            let (fields, rest) = read::<ThreeStep>(bytes, place)?;
-            Ok((Record::ThreeStep(fields), rest))
-        }
-        Certificate::NUMBER => {
-            let (fields, rest) = read::<Certificate>(bytes, place)?;
-            Ok((Record::Certificate(fields), rest))
-        }
-        Notice::NUMBER => {
-            let (fields, rest) = read::<Notice>(bytes, place)?;
-            Ok((Record::Notice(fields), rest))
-        }
-        _ => Err(Fault {
-            question: Question::RecordKindKnown,
-            layer: Layer::Kind,
-            place,
-        }),
+        Sequence::NUMBER => read_as::<Sequence, _>(Record::Sequence, bytes, place),
+        ThreeStep::NUMBER => read_as::<ThreeStep, _>(Record::ThreeStep, bytes, place),
+        Certificate::NUMBER => read_as::<Certificate, _>(Record::Certificate, bytes, place),
+        Notice::NUMBER => read_as::<Notice, _>(Record::Notice, bytes, place),
+        _ => Err(place.fault(Question::RecordKindKnown, Layer::Kind)),
     }
 }
 
@@ -90,6 +90,7 @@ impl<'a> Reader<'a> {
     }
 
     // The next record with its place, or `None` at the end of the bytes. After a fault the reader stays where it is.
+    #[tactic(auto, using(crate::proofs::Journals::next_by, crate::proofs::Journals::moved))]
     pub fn next(&mut self) -> Result<Option<Placed>, Fault>
         ensures same { self.new.journal.now ≡ self.old.journal.now }
         ensures answer { result ≡ next_of self.old.journal.now self.old.position self.old.records }
@@ -98,6 +99,7 @@ impl<'a> Reader<'a> {
     {
         let journal = self.journal;
         let bytes = &journal[self.position..];
+        // The end is an answer and no fault, so `?` has nothing to hand on here.
         let [first, ..] = bytes else {
             return Ok(None);
         };

@@ -1,14 +1,16 @@
 // The sequence record: a point that a main attempt decided.
+ghost use Rattle.std.specs.Prelude.{◌≡◌, refl};
 ghost use Rattle.journal.specs.Kinds.{sequence};
 ghost use Rattle.journal.specs.Sounds.{sequence_sound};
 
 use crate::bits::{Packing, Unpacking};
-use crate::codes::{FirstAttempt, Quantity, flag_code, flag_of, verdict_code, verdict_of};
+use crate::coded::Coded;
+use crate::codes::{FirstAttempt, Quantity};
 use crate::fields::{
     FIRST_ATTEMPT, FLAG, OBSERVATIONS, OUTS, POINT, QUANTITY, SETTLING_CODES, SQUARES, SUM,
     TOLERANCE,
 };
-use crate::kind::{Head, RecordKind};
+use crate::kind::RecordKind;
 use method::Verdict;
 
 // The numbers are those of the attempt that decided the point.
@@ -29,6 +31,29 @@ pub struct SequenceFields {
     pub squares: i32,
 }
 
+impl SequenceFields {
+    // The numbers of the fields, in the order in which they are written.
+    pub fn numbers(&self) -> [i32; 13]
+        ensures { result ≡ sequence.numbers self.now }
+    {
+        [
+            self.point,
+            self.first_attempt.code(),
+            self.observations,
+            self.outs,
+            self.sequence.code(),
+            self.quantity.code(),
+            self.wild.code(),
+            self.dominance.code(),
+            self.verdict.code(),
+            self.settling_codes,
+            self.tolerance,
+            self.sum,
+            self.squares,
+        ]
+    }
+}
+
 pub struct Sequence;
 
 impl RecordKind for Sequence {
@@ -38,57 +63,15 @@ impl RecordKind for Sequence {
 
     const LENGTH: usize = 15;
 
+    ghost NUMBER = { sequence.number };
+
+    ghost LENGTH = { sequence.size };
+
     ghost format = { sequence };
 
+    ghost consts = { (refl, refl) };
+
     ghost sound = { sequence_sound };
-
-    fn head() -> Head {
-        Head::new(Self::NUMBER, Self::LENGTH)
-    }
-
-    fn apart(bytes: &[u8]) -> Option<(u128, &[u8])> {
-        // Each byte is named by what it holds bits of.
-        let [
-            kind_point,
-            point_first,
-            first_n_x,
-            x_sequence_quantity,
-            marks_settling,
-            settling_d,
-            d_1,
-            d_2,
-            d_s,
-            s_1,
-            s_q,
-            q_1,
-            q_2,
-            q_3,
-            q_fill,
-            rest @ ..,
-        ] = bytes
-        else {
-            return None;
-        };
-        let word = u128::from_be_bytes([
-            0,
-            *kind_point,
-            *point_first,
-            *first_n_x,
-            *x_sequence_quantity,
-            *marks_settling,
-            *settling_d,
-            *d_1,
-            *d_2,
-            *d_s,
-            *s_1,
-            *s_q,
-            *q_1,
-            *q_2,
-            *q_3,
-            *q_fill,
-        ]);
-        Some((word, rest))
-    }
 
     fn related(fields: &SequenceFields) -> bool {
         fields.outs <= fields.observations
@@ -96,14 +79,14 @@ impl RecordKind for Sequence {
 
     fn pack(fields: &SequenceFields, bits: &mut Packing) {
         bits.put(POINT, fields.point);
-        bits.put(FIRST_ATTEMPT, fields.first_attempt.code());
+        bits.put(FIRST_ATTEMPT, fields.first_attempt);
         bits.put(OBSERVATIONS, fields.observations);
         bits.put(OUTS, fields.outs);
-        bits.put(FLAG, verdict_code(fields.sequence));
-        bits.put(QUANTITY, fields.quantity.code());
-        bits.put(FLAG, flag_code(fields.wild));
-        bits.put(FLAG, flag_code(fields.dominance));
-        bits.put(FLAG, verdict_code(fields.verdict));
+        bits.put(FLAG, fields.sequence);
+        bits.put(QUANTITY, fields.quantity);
+        bits.put(FLAG, fields.wild);
+        bits.put(FLAG, fields.dominance);
+        bits.put(FLAG, fields.verdict);
         bits.put(SETTLING_CODES, fields.settling_codes);
         bits.put(TOLERANCE, fields.tolerance);
         bits.put(SUM, fields.sum);
@@ -113,14 +96,14 @@ impl RecordKind for Sequence {
     fn unpack(bits: &mut Unpacking) -> SequenceFields {
         SequenceFields {
             point: bits.take(POINT),
-            first_attempt: FirstAttempt::of(bits.take(FIRST_ATTEMPT)),
+            first_attempt: bits.take(FIRST_ATTEMPT),
             observations: bits.take(OBSERVATIONS),
             outs: bits.take(OUTS),
-            sequence: verdict_of(bits.take(FLAG)),
-            quantity: Quantity::of(bits.take(QUANTITY)),
-            wild: flag_of(bits.take(FLAG)),
-            dominance: flag_of(bits.take(FLAG)),
-            verdict: verdict_of(bits.take(FLAG)),
+            sequence: bits.take(FLAG),
+            quantity: bits.take(QUANTITY),
+            wild: bits.take(FLAG),
+            dominance: bits.take(FLAG),
+            verdict: bits.take(FLAG),
             settling_codes: bits.take(SETTLING_CODES),
             tolerance: bits.take(TOLERANCE),
             sum: bits.take(SUM),

@@ -1,10 +1,11 @@
 // The three-step record: a point that a short attempt decided.
+ghost use Rattle.std.specs.Prelude.{◌≡◌, refl};
 ghost use Rattle.journal.specs.Kinds.{three_step};
 ghost use Rattle.journal.specs.Sounds.{three_step_sound};
 
 use crate::bits::{Packing, Unpacking};
 use crate::fields::{POINT, SETTLING_CODES, SUM, TOLERANCE};
-use crate::kind::{Head, RecordKind};
+use crate::kind::RecordKind;
 
 #[derive(Clone, Copy, PartialEq, Eq, Debug)]
 pub struct ThreeStepFields {
@@ -12,6 +13,15 @@ pub struct ThreeStepFields {
     pub settling_codes: i32,
     pub tolerance: i32,
     pub sum: i32,
+}
+
+impl ThreeStepFields {
+    // The numbers of the fields, in the order in which they are written.
+    pub fn numbers(&self) -> [i32; 4]
+        ensures { result ≡ three_step.numbers self.now }
+    {
+        [self.point, self.settling_codes, self.tolerance, self.sum]
+    }
 }
 
 pub struct ThreeStep;
@@ -23,22 +33,15 @@ impl RecordKind for ThreeStep {
 
     const LENGTH: usize = 8;
 
+    ghost NUMBER = { three_step.number };
+
+    ghost LENGTH = { three_step.size };
+
     ghost format = { three_step };
 
+    ghost consts = { (refl, refl) };
+
     ghost sound = { three_step_sound };
-
-    fn head() -> Head {
-        Head::new(Self::NUMBER, Self::LENGTH)
-    }
-
-    fn apart(bytes: &[u8]) -> Option<(u128, &[u8])> {
-        // Each byte is named by what it holds bits of: the point p, the settling codes, D and S.
-        let [kind_p, p_set, set_d, d_1, d_2, d_s, s_1, s_2, rest @ ..] = bytes else {
-            return None;
-        };
-        let word = u64::from_be_bytes([*kind_p, *p_set, *set_d, *d_1, *d_2, *d_s, *s_1, *s_2]);
-        Some((word as u128, rest))
-    }
 
     fn related(_fields: &ThreeStepFields) -> bool {
         true

@@ -12,16 +12,17 @@ use crate::kind::RecordKind;
 use method::Question;
 
 // The kind and the fields in a row of bits, and how many bits are left in the last byte.
+#[tactic(auto, using(crate::proofs::Formats::packing))]
 fn packed<K: RecordKind>(fields: &K::Fields) -> Packing
     ensures { result ≡ packed K.RecordKind.format fields.now }
 {
-    let head = K::head();
     let mut bits = Packing {
         word: 0,
-        left: 8 * head.length as u32,
+        // At most 15 bytes: `as` is proved to lose nothing.
+        left: 8 * K::LENGTH as u32,
         in_range: true,
     };
-    bits.put(KIND, head.number as i32);
+    bits.put(KIND, i32::from(K::NUMBER));
     K::pack(fields, &mut bits);
     bits
 }
@@ -38,21 +39,19 @@ fn asked<K: RecordKind>(
     if !bits.in_range || !K::related(fields) {
         return Err(Question::FieldsInRange);
     }
-    let count = K::head().length;
-    if place > len || len - place < count {
+    if place > len || len - place < K::LENGTH {
         return Err(Question::FitsBuffer);
     }
-    Ok(count)
+    Ok(K::LENGTH)
 }
 
 // Writes the `count` low bytes of `word` at the front of `out`, the most significant first.
+#[tactic(auto, using(crate::proofs::Bytes::low_bytes))]
 fn lay(out: &mut [u8], word: u128, count: usize)
     requires { (count ≤ length out.old) × (count ≤ 16) }
     ensures { out.new ≡ bytes_of count word ++ drop count out.old }
 {
-    for i in 0..count {
-        out[i] = ((word >> (8 * (count - 1 - i))) % 256) as u8;
-    }
+    out[..count].copy_from_slice(&word.to_be_bytes()[16 - count..]);
 }
 
 // Writes a record of the kind `K` into the journal at `place`, and answers its length.

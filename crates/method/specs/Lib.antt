@@ -1,9 +1,11 @@
 pub mod Questions
 pub mod Refusals
+pub mod Verdicts
 pub mod Meaning
 pub mod Lines
 pub mod Plans
 pub mod Tables
+pub mod FixedRows
 pub mod Ranges
 pub mod TableSteps
 pub mod TableRanges

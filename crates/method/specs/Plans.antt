@@ -3,6 +3,7 @@ use Rattle.std.specs.Prelude.{◌≡◌, ℕ, ◌*◌, cond, ℤ, pos, ◌==◌}
 use Rattle.std.proofs.Math.IntN.{sub_ℕ}
 use Rattle.method.specs.Lines.{line, numbers_of}
 use Rattle.method.specs.Meaning.{Meaning, up_to, no_accept, no_reject, no_offset}
+use Rattle.method.specs.declared.line.Line.{Line}
 use Rattle.method.specs.declared.line.Line.TheVariants.{Strengthened, Normal}
 
 -- a cut and a cut number of its own; the other answers pass up to that cut
@@ -38,6 +39,11 @@ strengthened_control = truncated (line (numbers_of Strengthened)) 44 2
 
 abbrev pub normal_control : Meaning
 normal_control = truncated (line (numbers_of Normal)) 40 4
+
+-- the standard control by each line
+abbrev pub standard_control : Line → Meaning
+standard_control Strengthened = strengthened_control
+standard_control Normal = normal_control
 
 -- accept numbers -1, -1, 0; reject number 1; offsets -5, 0, 5
 abbrev pub three_step : Meaning

@@ -1,15 +1,15 @@
 -- The answers of a laboratory's table lie in the ranges of every plan.
 use Rattle.std.proofs.Common.{arith}
-use Rattle.std.specs.Prelude.{◌≡◌, true, List}
+use Rattle.std.specs.Prelude.{◌≡◌, ℕ, true, List}
 use Rattle.std.proofs.lemmas.Int.{ints}
 use Rattle.std.proofs.lemmas.Bool.Decides.{nat_tests}
 use Rattle.method.specs.Meaning.{Ranged}
 use Rattle.method.specs.Tables.{Limited, rows_ranged, tabled}
 use Rattle.method.specs.TableSteps.{in_force_ranged}
 use Rattle.method.specs.declared.row.Row.{Row}
-use Rattle.method.specs.declared.row.TableLimits.{TableLimits}
+use Rattle.method.specs.declared.row.TableNumbers.{TableNumbers}
 
-pub table_ranged : (rows : List Row) (t : TableLimits) → rows_ranged rows ≡ true → Limited t → Ranged (tabled rows t)
+pub table_ranged : (rows : List Row) (t : TableNumbers ℕ) → rows_ranged rows ≡ true → Limited t → Ranged (tabled rows t)
 table_ranged rows t h l = record {
   cut_low = l.0;
   cut_high = l.1;

@@ -1,18 +1,8 @@
--- Steps of the loops over a table's rows, and the ranges of the row in force.
-use Rattle.std.specs.Prelude.{◌≡◌, ℕ, ◌+◌, ◌<◌, ◌≤◌, true, cond, ◌&&◌, List, [], ◌∷◌, length, drop, pos, fold, int_le, slice_index_or, refl}
-use Rattle.std.proofs.lemmas.List.{at_drop_more, at_drop_all}
+-- Steps over a table's rows, and the ranges of the row in force.
+use Rattle.std.specs.Prelude.{◌≡◌, ℕ, true, cond, List, [], ◌∷◌, pos, fold, int_le, refl}
 use Rattle.std.proofs.lemmas.Bool.{and_parts, cond_both}
 use Rattle.method.specs.declared.row.Row.{Row}
 use Rattle.method.specs.Tables.{rows_ranged, row_ranged, in_force, no_row}
-
-abbrev pub zero_row : Row
-zero_row = record { from = pos 0; accept = pos 0; reject = pos 0 }
-
-pub ranged_more : (rows : List Row) (i : ℕ) → i < length rows → rows_ranged (drop i rows) ≡ (row_ranged (slice_index_or rows i zero_row) && rows_ranged (drop (i + 1) rows))
-ranged_more rows i h = at_drop_more rows_ranged rows i zero_row h
-
-pub ranged_all : (rows : List Row) (i : ℕ) → length rows ≤ i → rows_ranged (drop i rows) ≡ true
-ranged_all rows i h = at_drop_all rows_ranged rows i h
 
 -- a later row takes the place of an earlier one
 abbrev pub later : ℕ → Row → Row → Row

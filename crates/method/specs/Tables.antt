@@ -1,12 +1,12 @@
 -- A laboratory's own plan.
 use Rattle.std.specs.Prelude.{ℕ, ◌≤◌, Bool, true, false, cond, ◌&&◌, List, [], ◌∷◌, length, ℤ, pos, negsuc, None, fold, Option, int_le, int_lt, nat_le, unsigned_abs}
+use Rattle.std.specs.List.{list_all}
 use Rattle.method.specs.Meaning.{Meaning, up_to, no_accept, no_reject, no_offset, peaked}
 use Rattle.method.specs.Refusals.{asks, between}
 use Rattle.method.specs.declared.question.Question.{Question}
 use Rattle.method.specs.declared.question.Question.TheVariants.{RowsStand, TableInRange}
 use Rattle.method.specs.declared.row.Row.{Row}
 use Rattle.method.specs.declared.row.TableNumbers.{TableNumbers}
-use Rattle.method.specs.declared.row.TableLimits.{TableLimits}
 
 -- the rows' first observations rise strictly, none above the cut
 abbrev pub rising : ℤ → ℤ → List Row → Bool
@@ -25,10 +25,9 @@ abbrev pub row_ranged : Row → Bool
 row_ranged r = between (negsuc 0) (pos 48) r.accept && between (pos 0) (pos 49) r.reject
 
 abbrev pub rows_ranged : List Row → Bool
-rows_ranged [] = true
-rows_ranged (r ∷ rs) = row_ranged r && rows_ranged rs
+rows_ranged rows = list_all row_ranged rows
 
-abbrev pub numbers_ranged : TableNumbers → Bool
+abbrev pub numbers_ranged : TableNumbers ℤ → Bool
 numbers_ranged t =
     between (pos 0) t.cut t.cut_number
     && (between (pos 0) (pos 100000) t.margin
@@ -37,13 +36,13 @@ numbers_ranged t =
     && between (pos 0) (pos 24) t.peak)))
 
 -- the cut is asked before the rows, and all other numbers after them
-abbrev pub table_refusal : List Row → TableNumbers → Option Question
+abbrev pub table_refusal : List Row → TableNumbers ℤ → Option Question
 table_refusal rows t =
     asks (between (pos 2) (pos 48) t.cut) TableInRange
     (asks (rows_stand t.cut rows) RowsStand (asks (numbers_ranged t && rows_ranged rows) TableInRange None))
 
 -- the numbers that were passed, of a table that was made of them
-abbrev pub passed : TableLimits → TableNumbers
+abbrev pub passed : TableNumbers ℕ → TableNumbers ℤ
 passed t = record {
   cut = pos t.cut;
   cut_number = pos t.cut_number;
@@ -54,7 +53,7 @@ passed t = record {
 }
 
 -- the ranges of a table's limits
-abbrev pub Limited : TableLimits → Type 0
+abbrev pub Limited : TableNumbers ℕ → Type 0
 Limited t =
     (2 ≤ t.cut) × (t.cut ≤ 48) × (t.cut_number ≤ t.cut) × (t.margin ≤ 100000) × (t.trapezoid ≤ 9999) × (t.uniform ≤ 9999)
     × (t.peak ≤ 24)
@@ -67,7 +66,7 @@ no_row = record { from = pos 0; accept = no_accept; reject = pos 49 }
 abbrev pub in_force : List Row → ℕ → Row
 in_force rows i = fold (λ earlier r. cond (int_le r.from (pos i)) r earlier) no_row rows
 
-abbrev pub tabled : List Row → TableLimits → Meaning
+abbrev pub tabled : List Row → TableNumbers ℕ → Meaning
 tabled rows t = record {
   cut = t.cut;
   cut_number = t.cut_number;

@@ -14,7 +14,7 @@ pub enum Line {
 }
 
 // A line's whole numbers: it accepts (s i - a) / 10,000 and rejects (s i + r) / 10,000 at observation i.
-#[derive(Clone, Copy)]
+#[derive(Clone, Copy, PartialEq, Eq, Debug)]
 pub struct Coefficients {
     pub a: u32,
     pub r: u32,
@@ -76,7 +76,7 @@ impl Plan for Line {
         CUT_MAX
     }
 
-    // Rounded down; a line that is negative accepts none.
+    // Rounded down; a line that is negative accepts none. By `as`, since i32 has no From of a u32 and a TryFrom would need a case.
     fn accept_number(&self, i: u32) -> i32 {
         if !is_within(CUT_MAX, i) {
             return NO_ACCEPT;

@@ -33,6 +33,7 @@ pub const MARGIN_MAX: u32 = 100_000;
 pub const COEFFICIENT_MAX: u32 = 9_999;
 
 // What a plan answers outside 1 to its cut: it accepts none, rejects none, and does not shift the signal.
+// Numbers and no Option: -1 is below every count of outs and 49 above, so that one comparison serves all.
 pub const NO_ACCEPT: i32 = -1;
 
 pub const NO_REJECT: u32 = 49;

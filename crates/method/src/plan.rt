@@ -14,7 +14,8 @@ pub trait Plan: Copy {
     fn cut_number(&self) -> u32
         ensures { result ≡ (meaning self.now).cut_number };
 
-    // In tolerance at observation i, the attempt is fit with at most this many out; -1 for never.
+    // In tolerance at observation i, the attempt is fit with at most this many out; -1 for never: it is below every count, so
+    // that the comparison with it needs no case for never.
     fn accept_number(&self, i: u32) -> i32
         ensures { result ≡ (meaning self.now).accept i };
 
@@ -45,10 +46,10 @@ pub trait Plan: Copy {
 pub(crate) fn is_within(cut: u32, i: u32) -> bool
     ensures { result ≡ within cut i }
 {
-    1 <= i && i <= cut
+    (1..=cut).contains(&i)
 }
 
-// An offset that rises by a tenth to its peak p at observation 2p, and falls again.
+// An offset that rises by a tenth to its peak p at observation 2p, and falls again. By `as`, since i32 has no From of a u32.
 pub(crate) fn peaked_offset(p: u32, i: u32) -> i32
     requires low { p ≤ 24 }
     requires early { i ≤ 48 }

@@ -38,16 +38,18 @@ pub enum Question {
 }
 
 impl Question {
-    // The number under which a refusal is reported.
+    // The number under which a refusal is reported: the enum's own, which `as` gives.
     pub fn number(self) -> u8
         ensures { result ≡ number_of self }
     {
         self as u8
     }
+}
 
-    // The question as it is put to a person.
-    fn text(self) -> &'static str {
-        match self {
+// The question as it is put to a person.
+impl fmt::Display for Question {
+    fn fmt<W: fmt::Write>(&self, f: &mut fmt::Formatter<W>) -> fmt::Result {
+        f.write_str(match self {
             Question::PointsInRange => "are the points 1 to 999?",
             Question::ControlKindKnown => "is the kind of control 1 (full) or 2 (reduced)?",
             Question::StopRuleKnown => "is the stop rule 1 or 2?",
@@ -74,12 +76,6 @@ impl Question {
             Question::RecordKindKnown => "is the record's kind known?",
             Question::AllBytesThere => "are all the record's bytes there?",
             Question::FillZero => "are the record's fill bits zero?",
-        }
-    }
-}
-
-impl fmt::Display for Question {
-    fn fmt<W: fmt::Write>(&self, f: &mut fmt::Formatter<W>) -> fmt::Result {
-        f.write_str(self.text())
+        })
     }
 }

@@ -10,15 +10,15 @@ use crate::measures::{
 };
 use crate::plan::{Plan, is_within, peaked_offset};
 use crate::question::Question;
+use crate::ranges::limit;
 use crate::row::{Row, TableLimits, TableNumbers};
+use crate::rows::Rows;
 
 #[derive(Clone, Copy)]
 pub struct Tabled {
-    rows: [Row; ROWS_MAX],
-    len: usize,
+    rows: Rows,
     limits: TableLimits,
-    ghost few: { len ≤ 8 },
-    ghost ranged: { rows_ranged (take len rows) ≡ true },
+    ghost ranged: { rows_ranged rows ≡ true },
     ghost cut_low: { 2 ≤ limits.cut },
     ghost cut_high: { limits.cut ≤ 48 },
     ghost cut_number_high: { limits.cut_number ≤ limits.cut },
@@ -27,12 +27,6 @@ pub struct Tabled {
     ghost uniform_high: { limits.uniform ≤ 9999 },
     ghost peak_high: { limits.peak ≤ 24 },
 }
-
-const NO_ROW: Row = Row {
-    from: 0,
-    accept: -1,
-    reject: 49,
-};
 
 // Whether the rows' first observations rise strictly, none above the cut.
 fn rise(cut: i32, rows: &[Row]) -> bool
@@ -51,44 +45,14 @@ fn rise(cut: i32, rows: &[Row]) -> bool
 fn stand(cut: i32, rows: &[Row]) -> bool
     ensures { result ≡ rows_stand cut rows.now }
 {
-    1 <= rows.len() && rows.len() <= ROWS_MAX && rows[0].from == 1 && rise(cut, rows)
+    (1..=ROWS_MAX).contains(&rows.len()) && rows[0].from == 1 && rise(cut, rows)
 }
 
 // Whether each row's accept and reject numbers lie in their ranges.
 fn are_ranged(rows: &[Row]) -> bool
     ensures { result ≡ rows_ranged rows.now }
 {
-    for row in rows {
-        if row.accept < -1 || row.accept > 48 || row.reject < 0 || row.reject > 49 {
-            return false;
-        }
-    }
-    true
-}
-
-// z, where it is from low to high.
-fn limit(low: u32, high: u32, z: i32) -> Option<u32>
-    requires ordered { low ≤ high }
-    requires small { high ≤ 100000 }
-    ensures test { is_some result ≡ between (pos low) (pos high) z }
-    ensures value { IfSome result (λ n. (pos n ≡ z) × (low ≤ n) × (n ≤ high)) }
-{
-    if z < low as i32 || z > high as i32 {
-        return None;
-    }
-    Some(z as u32)
-}
-
-// The rows at the front of fixed memory.
-fn kept(rows: &[Row]) -> [Row; ROWS_MAX]
-    requires { length rows.now ≤ 8 }
-    ensures { take (length rows.now) result ≡ rows.now }
-{
-    let mut all = [NO_ROW; ROWS_MAX];
-    for (k, row) in rows.iter().enumerate() {
-        all[k] = *row;
-    }
-    all
+    rows.iter().all(|row| (-1..=48).contains(&row.accept) && (0..=49).contains(&row.reject))
 }
 
 // The numbers behind the cut, where they lie in their ranges.
@@ -99,7 +63,7 @@ fn limited(cut: u32, t: TableNumbers) -> Option<TableLimits>
     ensures test { is_some result ≡ numbers_ranged t }
     ensures value { IfSome result (λ l. (passed l ≡ t) × Limited l) }
 {
-    Some(TableLimits {
+    Some(TableNumbers {
         cut,
         cut_number: limit(0, cut, t.cut_number)?,
         margin: limit(0, MARGIN_MAX, t.margin)?,
@@ -113,45 +77,27 @@ impl Tabled {
     // A plan of 1 to 8 rows, in their order, with the table's other numbers.
     pub fn new(rows: &[Row], numbers: TableNumbers) -> Result<Tabled, Question>
         ensures refuses { refused_by result ≡ table_refusal rows.now numbers }
-        ensures makes { IfOk result (λ t. (take t.len t.rows ≡ rows.now) × (passed t.limits ≡ numbers)) }
+        ensures makes { IfOk result (λ t. (t.rows ≡ rows.now) × (passed t.limits ≡ numbers)) }
     {
-        let Some(cut) = limit(CUT_MIN, CUT_MAX, numbers.cut) else {
-            return Err(Question::TableInRange);
-        };
+        let cut = limit(CUT_MIN, CUT_MAX, numbers.cut).ok_or(Question::TableInRange)?;
         if !stand(numbers.cut, rows) {
             return Err(Question::RowsStand);
         }
-        let Some(limits) = limited(cut, numbers) else {
-            return Err(Question::TableInRange);
-        };
+        let limits = limited(cut, numbers).ok_or(Question::TableInRange)?;
         if !are_ranged(rows) {
             return Err(Question::TableInRange);
         }
         Ok(Tabled {
-            rows: kept(rows),
-            len: rows.len(),
+            rows: Rows::new(rows),
             limits,
         })
-    }
-
-    // The row in force at observation i.
-    fn row(&self, i: u32) -> Row
-        ensures { result ≡ in_force (take self.now.len self.now.rows) i }
-    {
-        let mut found = NO_ROW;
-        for k in 0..self.len {
-            if i64::from(self.rows[k].from) <= i64::from(i) {
-                found = self.rows[k];
-            }
-        }
-        found
     }
 }
 
 impl Plan for Tabled {
-    ghost meaning = { λ t. tabled (take t.len t.rows) t.limits };
+    ghost meaning = { λ t. tabled t.rows t.limits };
 
-    ghost ranged = { λ t. table_ranged (take t.len t.rows) t.limits t.ranged (t.cut_low, t.cut_high, t.cut_number_high, t.margin_high, t.trapezoid_high, t.uniform_high, t.peak_high) };
+    ghost ranged = { λ t. table_ranged t.rows t.limits t.ranged (t.cut_low, t.cut_high, t.cut_number_high, t.margin_high, t.trapezoid_high, t.uniform_high, t.peak_high) };
 
     fn cut(&self) -> u32 {
         self.limits.cut
@@ -161,9 +107,10 @@ impl Plan for Tabled {
         self.limits.cut_number
     }
 
+    // Each answer is asked for by its own name: a function over the three would name them as often.
     fn accept_number(&self, i: u32) -> i32 {
         if is_within(self.limits.cut, i) {
-            self.row(i).accept
+            self.rows.in_force(i).accept
         } else {
             NO_ACCEPT
         }
@@ -171,7 +118,7 @@ impl Plan for Tabled {
 
     fn reject_number(&self, i: u32) -> u32 {
         if is_within(self.limits.cut, i) {
-            self.row(i).reject.unsigned_abs()
+            self.rows.in_force(i).reject.unsigned_abs()
         } else {
             NO_REJECT
         }

@@ -1,14 +1,15 @@
 // Any plan with a cut and a cut number of its own.
 ghost use Rattle.std.specs.Prelude.{◌≡◌, ◌≤◌, IfOk, unsigned_abs, ⊤};
 ghost use Rattle.method.specs.Lines.{line, numbers_of};
-ghost use Rattle.method.specs.Plans.{Alike, Holds, normal_control, strengthened_control, truncated};
+ghost use Rattle.method.specs.Plans.{Alike, Holds, standard_control, truncated};
 ghost use Rattle.method.specs.Refusals.{refused_by, truncation_refusal};
 ghost use Rattle.method.specs.Ranges.{truncated_ranged};
 
 use crate::line::Line;
-use crate::measures::{NO_ACCEPT, NO_OFFSET, NO_REJECT};
+use crate::measures::{CUT_MIN, NO_ACCEPT, NO_OFFSET, NO_REJECT};
 use crate::plan::{Plan, is_within};
 use crate::question::Question;
+use crate::ranges::limit;
 use std::alloc::AllocError;
 
 pub struct Truncated<P: Plan> {
@@ -20,6 +21,7 @@ pub struct Truncated<P: Plan> {
     ghost few: { cut_number ≤ cut },
 }
 
+// Written, since a generic struct with a ghost field derives no Clone.
 impl<P: Plan> Clone for Truncated<P> {
     ghost is_clone = { λ x y. y ≡ x };
 
@@ -44,16 +46,12 @@ fn cut_at<P: Plan>(
     ensures makes { IfOk result (λ t. Holds plan cut cut_number t.plan t.cut t.cut_number) }
     ensures earlier { IfOk result (λ t. t.cut ≤ beneath) }
 {
-    if cut < 2 || cut > beneath as i32 {
-        return Err(Question::TruncationCutInRange);
-    }
-    if cut_number < 0 || cut_number > cut {
-        return Err(Question::TruncationNumberInRange);
-    }
+    let cut = limit(CUT_MIN, beneath, cut).ok_or(Question::TruncationCutInRange)?;
+    let cut_number = limit(0, cut, cut_number).ok_or(Question::TruncationNumberInRange)?;
     Ok(Truncated {
         plan,
-        cut: cut as u32,
-        cut_number: cut_number as u32,
+        cut,
+        cut_number,
     })
 }
 
@@ -78,25 +76,18 @@ impl<P: Plan> Truncated<P> {
 }
 
 impl Truncated<Line> {
-    // Strengthened control: its line cut at 44 with 2.
-    pub fn strengthened() -> Truncated<Line>
-        ensures { truncated (line (numbers_of result.plan)) result.cut result.cut_number ≡ strengthened_control }
+    // The standard control by a line: strengthened is cut at 44 with 2, and normal at 40 with 4.
+    pub fn standard(which: Line) -> Truncated<Line>
+        ensures { truncated (line (numbers_of result.plan)) result.cut result.cut_number ≡ standard_control which }
     {
+        let (cut, cut_number) = match which {
+            Line::Strengthened => (44, 2),
+            Line::Normal => (40, 4),
+        };
         Truncated {
-            plan: Line::Strengthened,
-            cut: 44,
-            cut_number: 2,
-        }
-    }
-
-    // Normal control: its line cut at 40 with 4.
-    pub fn normal() -> Truncated<Line>
-        ensures { truncated (line (numbers_of result.plan)) result.cut result.cut_number ≡ normal_control }
-    {
-        Truncated {
-            plan: Line::Normal,
-            cut: 40,
-            cut_number: 4,
+            plan: which,
+            cut,
+            cut_number,
         }
     }
 }
@@ -114,6 +105,7 @@ impl<P: Plan> Plan for Truncated<P> {
         self.cut_number
     }
 
+    // Each answer of the plan beneath is asked by its own name: a function over the three would name them as often.
     fn accept_number(&self, i: u32) -> i32 {
         if is_within(self.cut, i) {
             self.plan.accept_number(i)

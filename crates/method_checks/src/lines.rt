@@ -110,19 +110,19 @@ fn normal_line_rejects(rt: HostRuntime) {
 fn controls_shift_the_signal(rt: HostRuntime) {
     offsets(
         &rt,
-        &Truncated::strengthened(),
+        &Truncated::standard(Line::Strengthened),
         &[(0, 0), (1, -10), (22, 11), (44, -11), (45, 0)],
     );
     offsets(
         &rt,
-        &Truncated::normal(),
+        &Truncated::standard(Line::Normal),
         &[(0, 0), (1, -9), (20, 10), (40, -10), (41, 0)],
     );
 }
 
 #[test]
 fn controls_are_cut(rt: HostRuntime) {
-    let strengthened = Truncated::strengthened();
+    let strengthened = Truncated::standard(Line::Strengthened);
     assert_eq!(rt; (strengthened.cut(), strengthened.cut_number()), (44, 2));
     assert_eq!(rt;
         (strengthened.trapezoid_k(), strengthened.uniform_k()),
@@ -138,7 +138,7 @@ fn controls_are_cut(rt: HostRuntime) {
         &strengthened,
         &[(44, 5), (45, 49), (4_294_967_295, 49)],
     );
-    let normal = Truncated::normal();
+    let normal = Truncated::standard(Line::Normal);
     assert_eq!(rt; (normal.cut(), normal.cut_number()), (40, 4));
     assert_eq!(rt; (normal.trapezoid_k(), normal.uniform_k()), (6_127, 8_000));
     accepts(&rt, &normal, &[(40, 2), (41, -1)]);
@@ -171,9 +171,7 @@ fn three_step_control(rt: HostRuntime) {
 // A plan is cloned without memory.
 #[test]
 fn a_truncation_is_cloned(rt: HostRuntime) {
-    let cloned = match Truncated::normal().clone() {
-        Ok(plan) => Some((plan.cut(), plan.cut_number())),
-        Err(_) => None,
-    };
+    let cloned = Truncated::standard(Line::Normal).clone().ok();
+    let cloned = cloned.map(|plan| (plan.cut(), plan.cut_number()));
     assert_eq!(rt; cloned, Some((40, 4)));
 }

@@ -1,6 +1,7 @@
 // Every plan question at its edge, from both sides.
 use method::{Line, Question, Row, TableNumbers, Tabled, Truncated};
 
+// The number of the question, or 0: the tables of tests name questions by their numbers.
 fn number<T: Drop>(made: Result<T, Question>) -> u8 {
     match made {
         Ok(_) => 0,
@@ -41,7 +42,7 @@ fn a_truncation_of_a_truncation_asks_the_same(rt: HostRuntime) {
         (1, 0, 4),
     ] {
         assert_eq!(rt;
-            number(Truncated::normal().truncate(cut, cut_number)),
+            number(Truncated::standard(Line::Normal).truncate(cut, cut_number)),
             question
         );
     }

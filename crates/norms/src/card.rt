@@ -1,7 +1,7 @@
 // The card of norms of one plan.
 ghost use Rattle.std.specs.Prelude.{◌≤◌};
 
-use crate::zone::{Zone, zone_of};
+use crate::zone::zone_of;
 use control::soonest_fit;
 use method::Plan;
 use std::io;
@@ -9,11 +9,11 @@ use std::io;
 // The card: the plan's numbers, a line for each observation, the zones, and the soonest fit.
 pub fn print_card<P: Plan>(rt: &impl Print, plan: &P) -> io::Result<()> {
     print_numbers(rt, plan)?;
-    for i in 1..plan.cut() + 1 {
+    for i in 1..=plan.cut() {
         print_observation(rt, plan, i)?;
     }
     print_zones(rt, plan)?;
-    let soonest = soonest_fit(plan, 0, 0);
+    let soonest = soonest_fit(plan, 0, 0).unwrap_or(0);
     println!(rt; "soonest fit, all in tolerance: {soonest}")
 }
 
@@ -46,10 +46,10 @@ fn most_outs<P: Plan>(plan: &P) -> u32
 {
     let cut = plan.cut();
     let mut most = plan.cut_number() + 1;
-    for i in 1..cut + 1 {
+    for i in 1..=cut {
         let reject = plan.reject_number(i);
-        if most < reject && reject <= cut {
-            most = reject;
+        if reject <= cut {
+            most = most.max(reject);
         }
     }
     most
@@ -57,9 +57,8 @@ fn most_outs<P: Plan>(plan: &P) -> u32
 
 fn print_zones<P: Plan>(rt: &impl Print, plan: &P) -> io::Result<()> {
     println!(rt; "  outs   + fit   . go on   # unfit   * as the observation is")?;
-    let most = most_outs(plan);
-    for down in 0..most + 1 {
-        print_level(rt, plan, most - down)?;
+    for x in (0..=most_outs(plan)).rev() {
+        print_level(rt, plan, x)?;
     }
     print_axis(rt, plan.cut())
 }
@@ -67,13 +66,9 @@ fn print_zones<P: Plan>(rt: &impl Print, plan: &P) -> io::Result<()> {
 // The zones at x out, from the first observation to the cut.
 fn print_level<P: Plan>(rt: &impl Print, plan: &P, x: u32) -> io::Result<()> {
     print!(rt; "  {x:>4} ")?;
-    for i in 1..plan.cut() + 1 {
-        rt.print(match zone_of(plan, i, x) {
-            Zone::Fit => "+",
-            Zone::GoOn => ".",
-            Zone::Unfit => "#",
-            Zone::Either => "*",
-        })?;
+    for i in 1..=plan.cut() {
+        let zone = zone_of(plan, i, x);
+        print!(rt; "{zone}")?;
     }
     println!(rt; "")
 }
@@ -81,9 +76,8 @@ fn print_level<P: Plan>(rt: &impl Print, plan: &P, x: u32) -> io::Result<()> {
 // Every fifth observation under its column.
 fn print_axis(rt: &impl Print, cut: u32) -> io::Result<()> {
     print!(rt; "       ")?;
-    for i in 1..cut / 5 + 1 {
-        let number = 5 * i;
-        print!(rt; "{number:>5}")?;
+    for i in (5..=cut).step_by(5) {
+        print!(rt; "{i:>5}")?;
     }
     println!(rt; "")
 }

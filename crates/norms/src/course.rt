@@ -1,16 +1,10 @@
 // What a typed list of errors comes to, observation by observation.
-use console::{ChosenPlan, Words, parse_number, same_word};
-use control::{Attempt, Distribution, Finished, Permitted, Progress, Tally, Tolerance};
-use method::{Question, Verdict};
+use crate::line_error::LineError;
+use console::{ChosenPlan, Words, next_number, parse_number};
+use control::{Attempt, Distribution, Finished, Permitted, Tally, Tolerance};
 use std::alloc::Global;
 use std::io;
-
-// Why words make no list of errors.
-pub enum CourseError {
-    Syntax,
-    Refused(Question),
-    NoMemory,
-}
+use std::ops::ControlFlow;
 
 // The tolerance and the errors that were typed.
 #[derive(Drop)]
@@ -19,30 +13,19 @@ pub struct Course {
     errors: Vec<i32>,
 }
 
-fn next_number(words: &mut Words) -> Option<i32> {
-    parse_number(words.next()?)
-}
-
+// What differs from name to name is the table of its words.
 fn next_distribution(words: &mut Words) -> Option<Distribution> {
-    let word = words.next()?;
-    if same_word(word, b"trapezoid") {
-        Some(Distribution::Trapezoid)
-    } else if same_word(word, b"uniform") {
-        Some(Distribution::Uniform)
-    } else {
-        None
+    match words.next()? {
+        b"trapezoid" => Some(Distribution::Trapezoid),
+        b"uniform" => Some(Distribution::Uniform),
+        _ => None,
     }
 }
 
-fn parse_errors(heap: Global, words: &mut Words) -> Result<Vec<i32>, CourseError> {
+fn parse_errors(heap: Global, words: &mut Words) -> Result<Vec<i32>, LineError> {
     let mut errors = Vec::new(heap);
     while let Some(word) = words.next() {
-        let Some(error) = parse_number(word) else {
-            return Err(CourseError::Syntax);
-        };
-        if errors.push(error).is_err() {
-            return Err(CourseError::NoMemory);
-        }
+        errors.push(parse_number(word).ok_or(LineError::Syntax)?)?;
     }
     Ok(errors)
 }
@@ -52,24 +35,14 @@ pub fn parse_course(
     heap: Global,
     plan: &ChosenPlan,
     words: &mut Words,
-) -> Result<Course, CourseError> {
-    let Some(meter) = next_number(words) else {
-        return Err(CourseError::Syntax);
-    };
-    let Some(reference) = next_number(words) else {
-        return Err(CourseError::Syntax);
-    };
-    let Some(distribution) = next_distribution(words) else {
-        return Err(CourseError::Syntax);
-    };
-    let permitted = match Permitted::new(meter, reference) {
-        Ok(permitted) => permitted,
-        Err(question) => return Err(CourseError::Refused(question)),
-    };
-    let errors = parse_errors(heap, words)?;
+) -> Result<Course, LineError> {
+    let meter = next_number(words).ok_or(LineError::Syntax)?;
+    let reference = next_number(words).ok_or(LineError::Syntax)?;
+    let distribution = next_distribution(words).ok_or(LineError::Syntax)?;
+    let permitted = Permitted::new(meter, reference)?;
     Ok(Course {
         tolerance: Tolerance::new(permitted, plan, distribution),
-        errors,
+        errors: parse_errors(heap, words)?,
     })
 }
 
@@ -97,12 +70,12 @@ pub fn print_course(rt: &impl Print, plan: &ChosenPlan, course: &Course) -> io::
     let mut attempt = Attempt::new(course.tolerance);
     for error in course.errors.as_slice() {
         match attempt.observe(plan, *error) {
-            Progress::GoesOn(next) => {
+            ControlFlow::Continue(next) => {
                 print_tally(rt, *error, next.tally())?;
                 println!(rt; "goes on")?;
                 attempt = next;
             }
-            Progress::Ended(finished) => {
+            ControlFlow::Break(finished) => {
                 print_tally(rt, *error, finished.tally())?;
                 return print_end(rt, &finished);
             }

@@ -5,19 +5,22 @@ ghost use Rattle.std.specs.Prelude.{◌≤◌, length};
 
 mod card;
 mod course;
+mod line_error;
 mod zone;
 
 use card::print_card;
-use console::{ChosenPlan, PlanError, Words, parse_plan, same_word};
-use course::{CourseError, parse_course, print_course};
-use method::Question;
+use console::{ChosenPlan, Words, parse_plan, same_word};
+use course::{Course, parse_course, print_course};
+use line_error::LineError;
 use std::alloc::Global;
 use std::io;
 use std::io::{BufRead, BufReader};
 
-fn print_refusal(rt: &impl Print, question: Question) -> io::Result<()> {
-    let number = question.number();
-    println!(rt; "refused {number} {question}")
+// The plan that a line names, and the list of errors behind it, if there is one.
+#[derive(Drop)]
+struct Asked {
+    plan: ChosenPlan,
+    course: Option<Course>,
 }
 
 // The length of what stands before the word `errors`, or of the whole line where there is none.
@@ -35,40 +38,33 @@ fn before_errors(line: &[u8]) -> usize
     line.len()
 }
 
-fn answer_errors(
-    rt: &impl Print,
-    heap: Global,
-    plan: &ChosenPlan,
-    words: &mut Words,
-) -> io::Result<()> {
-    match parse_course(heap, plan, words) {
-        Ok(course) => print_course(rt, plan, &course),
-        Err(CourseError::Refused(question)) => print_refusal(rt, question),
-        Err(CourseError::Syntax) => println!(rt; "syntax"),
-        Err(CourseError::NoMemory) => println!(rt; "no memory"),
-    }
+fn parse_line(heap: Global, line: &[u8]) -> Result<Asked, LineError> {
+    let typed = before_errors(line);
+    let plan = parse_plan(&mut Words::new(&line[..typed]))?;
+    let mut words = Words::new(&line[typed..]);
+    let course = words
+        .next()
+        .map(|_| parse_course(heap, &plan, &mut words))
+        .transpose()?;
+    Ok(Asked { plan, course })
 }
 
 // The card of a plan, or what the errors typed behind it come to.
-fn answer_plan(rt: &impl Print, heap: Global, plan: &ChosenPlan, behind: &[u8]) -> io::Result<()> {
-    let mut words = Words::new(behind);
-    match words.next() {
-        None => print_card(rt, plan),
-        Some(_) => answer_errors(rt, heap, plan, &mut words),
+fn print_asked(rt: &impl Print, asked: &Asked) -> io::Result<()> {
+    match &asked.course {
+        None => print_card(rt, &asked.plan),
+        Some(course) => print_course(rt, &asked.plan, course),
     }
 }
 
 // Blank lines and comments get no answer.
 fn answer(rt: &impl Print, heap: Global, line: &[u8]) -> io::Result<()> {
-    match Words::new(line).next() {
-        None | Some([b'#', ..]) => return Ok(()),
-        Some(_) => {}
+    if matches!(Words::new(line).next(), None | Some([b'#', ..])) {
+        return Ok(());
     }
-    let typed = before_errors(line);
-    match parse_plan(&mut Words::new(&line[0..typed])) {
-        Ok(plan) => answer_plan(rt, heap, &plan, &line[typed..]),
-        Err(PlanError::Refused(question)) => print_refusal(rt, question),
-        Err(PlanError::Syntax) => println!(rt; "syntax"),
+    match parse_line(heap, line) {
+        Ok(asked) => print_asked(rt, &asked),
+        Err(error) => println!(rt; "{error}"),
     }
 }
 

@@ -3,14 +3,27 @@ ghost use Rattle.norms.specs.Zones.{between_lines, zone_at};
 ghost use Rattle.std.specs.Prelude.{◌≡◌};
 
 use method::Plan;
+use std::fmt;
 
-#[derive(Clone, Copy)]
+#[derive(Clone, Copy, PartialEq, Eq, Debug)]
 pub enum Zone {
     Fit,
     GoOn,
     Unfit,
     // fit if the observation is in tolerance, unfit if it is out
     Either,
+}
+
+// As the card draws it.
+impl fmt::Display for Zone {
+    fn fmt<W: fmt::Write>(&self, f: &mut fmt::Formatter<W>) -> fmt::Result {
+        f.write_str(match self {
+            Zone::Fit => "+",
+            Zone::GoOn => ".",
+            Zone::Unfit => "#",
+            Zone::Either => "*",
+        })
+    }
 }
 
 // The zone of observation i with x out by then.

@@ -1,5 +1,5 @@
 -- How large a point's numbers are between calls, and how many codes it has taken.
-use Rattle.std.specs.Prelude.{ℕ, ◌+◌, ◌≤◌, Bool, true, false, pos, unsigned_abs}
+use Rattle.std.specs.Prelude.{◌≡◌, ℕ, ◌+◌, ◌≤◌, Bool, true, false, pos, unsigned_abs}
 use Rattle.control.specs.Attempts.{Sound, none_yet}
 use Rattle.control.specs.Tolerances.{Permits}
 use Rattle.point.specs.declared.phase.Before.{Before}
@@ -52,32 +52,12 @@ trial_of (Settling u) = blank u.setting
 trial_of (Observing a) = a
 trial_of (Decided o) = o.trial
 
--- the settling codes of a point that settles
-abbrev pub awaited : Phase → ℕ
-awaited Waiting = 0
-awaited (Settling u) = u.codes.count
-awaited (Observing a) = 0
-awaited (Decided o) = 0
-
--- the observations of an attempt that goes on
-abbrev pub going : Phase → ℕ
-going Waiting = 0
-going (Settling u) = 0
-going (Observing a) = a.tally.observations
-going (Decided o) = 0
-
--- the observations of a decided point's last attempt
-abbrev pub made : Phase → ℕ
-made Waiting = 1
-made (Settling u) = 1
-made (Observing a) = 1
-made (Decided o) = o.trial.tally.observations
-
-abbrev pub Held : Phase → Type 0
-Held f = Within (trial_of f) × (awaited f ≤ 199) × (going f ≤ 47) × (1 ≤ made f)
-
 abbrev pub is_open : Phase → Bool
 is_open Waiting = false
 is_open (Settling u) = true
 is_open (Observing a) = true
 is_open (Decided o) = true
+
+-- the point is open, and has taken n codes
+abbrev pub Takes : ℕ → Phase → Type 0
+Takes n f = (taken f ≡ n) × (is_open f ≡ true)

@@ -1,5 +1,5 @@
 -- Levels of the signal, and the errors of codes at them.
-use Rattle.std.specs.Prelude.{◌+◌, Bool, ℤ, pos, negsuc, ◌+ℤ◌}
+use Rattle.std.specs.Prelude.{◌+◌, Bool, ℤ, pos, negsuc, ◌+ℤ◌, Some, None}
 use Rattle.method.specs.Meaning.{Meaning}
 use Rattle.method.specs.Refusals.{between}
 use Rattle.control.specs.Prospects.{soonest_fit}
@@ -17,7 +17,7 @@ legal_code c = between (negsuc 1999998) (pos 1999999) c
 abbrev pub settling_level_of : Meaning → Meaning → Control → Carried → Unsettled → Level
 settling_level_of m s k h u = record {
   tenths = u.setting.signal;
-  observation = 0;
+  observation = None;
   soonest = soonest_fit (plan_used m s (begins k h)) 0 0;
 }
 
@@ -25,6 +25,6 @@ settling_level_of m s k h u = record {
 abbrev pub observing_level_of : Meaning → Trial → Level
 observing_level_of p a = record {
   tenths = a.setting.signal +ℤ p.offset (a.tally.observations + 1);
-  observation = a.tally.observations + 1;
+  observation = Some (a.tally.observations + 1);
   soonest = soonest_fit p a.tally.observations a.tally.outs;
 }

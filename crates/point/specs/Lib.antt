@@ -1,3 +1,5 @@
+pub mod Values
+pub mod Controls
 pub mod Settings
 pub mod Levels
 pub mod Trials

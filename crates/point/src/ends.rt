@@ -1,50 +1,44 @@
 // What the end of an attempt means for its point.
-ghost use Rattle.std.specs.Prelude.{◌≡◌, ◌+◌, ◌≤◌, true};
-ghost use Rattle.point.specs.Bounds.{Held, Within, earlier, is_open, made_before, taken, taken_by};
+ghost use Rattle.std.specs.Prelude.{◌≡◌, ◌+◌, ◌≤◌};
+ghost use Rattle.point.specs.Bounds.{Takes, made_before, taken_by};
 ghost use Rattle.point.specs.Ends.{another, attempt_end, decided, first_full, leaves, main_end, next_after, second_full, short_end};
-ghost use Rattle.point.specs.Levels.{legal_code};
 ghost use Rattle.point.specs.Phases.{observe_on};
 ghost use Rattle.point.specs.Trials.{plan_of};
-ghost use Rattle.point.specs.declared.phase.Course.TheVariants.{Main};
 
-use crate::phase::{Before, Carried, Control, Course, Outcome, Phase, PlanUsed, Trial};
+use crate::code::Code;
+use crate::phase::{Before, Carried, Control, Course, Ended, Ongoing, Outcome, Phase, PlanUsed};
+use crate::plans::Plans;
 use crate::trials::{begin, note};
 use control::{is_dominant, quantity_control};
 use method::{Plan, Verdict};
+use std::ops::ControlFlow;
 
 // A main attempt after an earlier one. The point does not settle again.
-fn retry<M: Plan>(main: &M, dominance: bool, trial: Trial, before: Before) -> Phase
-    requires within { Within trial }
-    requires first { earlier trial.course ≡ 0 }
-    requires made { made_before before ≡ trial.tally.observations }
-    ensures is { result ≡ another (M.Plan.meaning main.now) dominance trial before }
-    ensures held { Held result }
-    ensures taken { (taken result ≡ taken_by trial) × (is_open result ≡ true) }
+fn retry<M: Plan>(main: &M, dominance: bool, ended: Ended, before: Before) -> Phase
+    requires { made_before before ≤ 48 }
+    ensures { result ≡ another (M.Plan.meaning main.now) dominance ended before }
 {
+    let earlier = ended.trial;
     Phase::Observing(begin(
         main,
         dominance,
-        trial.setting,
-        trial.settled,
+        earlier.setting,
+        earlier.settled,
         Course::Main(before),
     ))
 }
 
 fn decide(
-    trial: Trial,
+    ended: Ended,
     sequence: Verdict,
     quantity: Option<Verdict>,
     dominance: bool,
     verdict: Verdict,
 ) -> Phase
-    requires within { Within trial }
-    requires some { 1 ≤ trial.tally.observations }
-    ensures is { result ≡ decided trial sequence quantity dominance verdict }
-    ensures held { Held result }
-    ensures taken { (taken result ≡ taken_by trial) × (is_open result ≡ true) }
+    ensures { result ≡ decided ended sequence quantity dominance verdict }
 {
     Phase::Decided(Outcome {
-        trial,
+        trial: ended,
         sequence,
         quantity,
         dominance,
@@ -53,97 +47,72 @@ fn decide(
 }
 
 // A first attempt under full control: sequence and quantity control agree, or a second attempt follows.
-fn first_full<M: Plan>(main: &M, trial: Trial, dominance: bool, v: Verdict, q: Verdict) -> Phase
-    requires within { Within trial }
-    requires some { 1 ≤ trial.tally.observations }
-    requires first { earlier trial.course ≡ 0 }
-    ensures is { result ≡ first_full (M.Plan.meaning main.now) trial dominance v q }
-    ensures held { Held result }
-    ensures taken { (taken result ≡ taken_by trial) × (is_open result ≡ true) }
+fn first_full<M: Plan>(main: &M, ended: Ended, dominance: bool, v: Verdict, q: Verdict) -> Phase
+    ensures { result ≡ first_full (M.Plan.meaning main.now) ended dominance v q }
 {
-    let made = trial.tally.observations;
+    let made = ended.trial.tally.observations;
     match (v, q) {
-        (Verdict::Fit, Verdict::Fit) => decide(trial, v, Some(q), dominance, Verdict::Fit),
+        (Verdict::Fit, Verdict::Fit) => decide(ended, v, Some(q), dominance, Verdict::Fit),
         (Verdict::Fit, Verdict::Unfit) => retry(
             main,
             dominance,
-            trial,
+            ended,
             Before::SequenceAlone(made),
         ),
         (Verdict::Unfit, Verdict::Fit) => retry(
             main,
             dominance,
-            trial,
+            ended,
             Before::QuantityAlone(made),
         ),
-        (Verdict::Unfit, Verdict::Unfit) => decide(trial, v, Some(q), dominance, Verdict::Unfit),
+        (Verdict::Unfit, Verdict::Unfit) => decide(ended, v, Some(q), dominance, Verdict::Unfit),
     }
 }
 
 // A second attempt under full control: fit only if both controls are.
-fn second_full(trial: Trial, dominance: bool, v: Verdict, q: Verdict) -> Phase
-    requires within { Within trial }
-    requires some { 1 ≤ trial.tally.observations }
-    ensures is { result ≡ second_full trial dominance v q }
-    ensures held { Held result }
-    ensures taken { (taken result ≡ taken_by trial) × (is_open result ≡ true) }
+fn second_full(ended: Ended, dominance: bool, v: Verdict, q: Verdict) -> Phase
+    ensures { result ≡ second_full ended dominance v q }
 {
-    match (v, q) {
-        (Verdict::Fit, Verdict::Fit) => decide(trial, v, Some(q), dominance, Verdict::Fit),
-        _ => decide(trial, v, Some(q), dominance, Verdict::Unfit),
-    }
+    let both = Verdict::from(v.is_fit() && q.is_fit());
+    decide(ended, v, Some(q), dominance, both)
 }
 
 // The end of a main attempt, which finds the dominance anew.
-fn main_end<M: Plan>(main: &M, control: Control, before: Before, trial: Trial, v: Verdict) -> Phase
-    requires within { Within trial }
-    requires some { 1 ≤ trial.tally.observations }
-    requires course { trial.course ≡ Main before }
-    ensures is { result ≡ main_end (M.Plan.meaning main.now) control before trial v }
-    ensures held { Held result }
-    ensures taken { (taken result ≡ taken_by trial) × (is_open result ≡ true) }
+fn main_end<M: Plan>(main: &M, control: Control, before: Before, ended: Ended, v: Verdict) -> Phase
+    ensures { result ≡ main_end (M.Plan.meaning main.now) control before ended v }
 {
-    let dominance = is_dominant(trial.tally);
+    let dominance = is_dominant(ended.trial.tally);
     match control {
-        Control::Reduced => decide(trial, v, None, dominance, v),
+        Control::Reduced => decide(ended, v, None, dominance, v),
         Control::Full => {
-            let q = quantity_control(trial.tally, trial.width);
+            let q = quantity_control(ended.trial.tally, ended.trial.width);
             match before {
-                Before::Nothing => first_full(main, trial, dominance, v, q),
-                _ => second_full(trial, dominance, v, q),
+                Before::Nothing => first_full(main, ended, dominance, v, q),
+                _ => second_full(ended, dominance, v, q),
             }
         }
     }
 }
 
 // The end of a short attempt, which leaves the dominance as it was.
-fn short_end<M: Plan>(main: &M, dominance: bool, trial: Trial, v: Verdict) -> Phase
-    requires within { Within trial }
-    requires some { 1 ≤ trial.tally.observations }
-    requires first { earlier trial.course ≡ 0 }
-    ensures is { result ≡ short_end (M.Plan.meaning main.now) dominance trial v }
-    ensures held { Held result }
-    ensures taken { (taken result ≡ taken_by trial) × (is_open result ≡ true) }
+fn short_end<M: Plan>(main: &M, dominance: bool, ended: Ended, v: Verdict) -> Phase
+    ensures { result ≡ short_end (M.Plan.meaning main.now) dominance ended v }
 {
     match v {
-        Verdict::Fit => decide(trial, v, None, dominance, v),
+        Verdict::Fit => decide(ended, v, None, dominance, v),
         Verdict::Unfit => {
-            let made = trial.tally.observations;
-            retry(main, dominance, trial, Before::ShortUnfit(made))
+            let made = ended.trial.tally.observations;
+            retry(main, dominance, ended, Before::ShortUnfit(made))
         }
     }
 }
 
-fn conclude<M: Plan>(main: &M, control: Control, dominance: bool, trial: Trial, v: Verdict) -> Phase
-    requires within { Within trial }
-    requires some { 1 ≤ trial.tally.observations }
-    ensures is { result ≡ attempt_end (M.Plan.meaning main.now) control dominance trial.course trial v }
-    ensures held { Held result }
-    ensures taken { (taken result ≡ taken_by trial) × (is_open result ≡ true) }
+fn conclude<M: Plan>(main: &M, control: Control, dominance: bool, ended: Ended, v: Verdict) -> Phase
+    ensures { result ≡ attempt_end (M.Plan.meaning main.now) control dominance ended.course ended v }
 {
-    match trial.course {
-        Course::Main(before) => main_end(main, control, before, trial, v),
-        Course::Short => short_end(main, dominance, trial, v),
+    match ended.trial.course {
+        Course::Main(before) => main_end(main, control, before, ended, v),
+        Course::Short => short_end(main, dominance, ended, v),
     }
 }
 
@@ -153,42 +122,28 @@ fn observe_on<P: Plan, M: Plan>(
     main: &M,
     control: Control,
     dominance: bool,
-    trial: Trial,
-    code: i32,
+    ongoing: Ongoing,
+    code: Code,
 ) -> Phase
-    requires within { Within trial }
-    requires room { trial.tally.observations ≤ 47 }
-    requires legal { legal_code code ≡ true }
-    ensures is { result ≡ observe_on (P.Plan.meaning plan.now) (M.Plan.meaning main.now) control dominance trial code }
-    ensures held { Held result }
-    ensures taken { (taken result ≡ taken_by trial + 1) × (is_open result ≡ true) }
+    ensures { result ≡ observe_on (P.Plan.meaning plan.now) (M.Plan.meaning main.now) control dominance ongoing code }
 {
-    let (after, verdict) = note(plan, trial, code);
-    match verdict {
-        None => Phase::Observing(after),
-        Some(v) => conclude(main, control, dominance, after, v),
+    match note(plan, ongoing, code) {
+        ControlFlow::Continue(after) => Phase::Observing(after),
+        ControlFlow::Break((after, v)) => conclude(main, control, dominance, after, v),
     }
 }
 
-// One observation more, and what it means for the point.
-pub fn observe<M: Plan, S: Plan>(
-    main: &M,
-    short: &S,
-    control: Control,
-    dominance: bool,
-    trial: Trial,
-    code: i32,
-) -> Phase
-    requires within { Within trial }
-    requires room { trial.tally.observations ≤ 47 }
-    requires legal { legal_code code ≡ true }
-    ensures is { result ≡ observe_on (plan_of (M.Plan.meaning main.now) (S.Plan.meaning short.now) trial.course) (M.Plan.meaning main.now) control dominance trial code }
-    ensures held { Held result }
-    ensures taken { (taken result ≡ taken_by trial + 1) × (is_open result ≡ true) }
-{
-    match trial.course {
-        Course::Main(_) => observe_on(main, main, control, dominance, trial, code),
-        Course::Short => observe_on(short, main, control, dominance, trial, code),
+impl<M: Plan, S: Plan> Plans<M, S> {
+    // One observation more, and what it means for the point.
+    pub fn observe(&self, control: Control, dominance: bool, ongoing: Ongoing, code: Code) -> Phase
+        ensures is { result ≡ observe_on (plan_of (M.Plan.meaning self.now.main) (S.Plan.meaning self.now.short) ongoing.course) (M.Plan.meaning self.now.main) control dominance ongoing code }
+        ensures takes { Takes (taken_by ongoing + 1) result }
+    {
+        let main = &self.main;
+        match ongoing.trial.course {
+            Course::Main(_) => observe_on(main, main, control, dominance, ongoing, code),
+            Course::Short => observe_on(&self.short, main, control, dominance, ongoing, code),
+        }
     }
 }
 
@@ -209,12 +164,14 @@ fn plan_after(course: Course, dominance: bool) -> PlanUsed
     }
 }
 
-// What a decided point passes on to the next.
-pub fn passed_on(outcome: Outcome) -> Carried
-    ensures { result ≡ leaves outcome }
-{
-    Carried {
-        dominance: outcome.dominance,
-        next: plan_after(outcome.trial.course, outcome.dominance),
+impl Outcome {
+    // What a decided point passes on to the next.
+    pub fn passed_on(&self) -> Carried
+        ensures { result ≡ leaves self.now }
+    {
+        Carried {
+            dominance: self.dominance,
+            next: plan_after(self.trial.trial.course, self.dominance),
+        }
     }
 }

@@ -1,28 +1,21 @@
 // Levels of the signal, and the errors of codes at them.
-ghost use Rattle.std.specs.Prelude.{◌≡◌, ◌≤◌, true, pos, ◌+ℤ◌, ◌-ℤ◌, ◌*ℤ◌, unsigned_abs};
-ghost use Rattle.point.specs.Bounds.{Within};
-ghost use Rattle.point.specs.Levels.{legal_code, observing_level_of, settling_level_of};
+ghost use Rattle.std.specs.Prelude.{◌≡◌, ◌≤◌, pos, ◌+ℤ◌, ◌-ℤ◌, ◌*ℤ◌, unsigned_abs};
+ghost use Rattle.point.specs.Levels.{observing_level_of, settling_level_of};
 ghost use Rattle.point.specs.Trials.{error_at, level_at, plan_of};
 
+use crate::code::Code;
 use crate::phase::{Carried, Control, Course, Level, PlanUsed, Trial, Unsettled};
+use crate::plans::Plans;
+use crate::setting::Setting;
 use crate::trials::begins_with;
 use control::soonest_fit;
 use method::Plan;
-use method::measures::CODE_MAX;
 
-// Whether a meter can show this code.
-pub fn is_legal(code: i32) -> bool
-    ensures { result ≡ legal_code code }
-{
-    -CODE_MAX <= code && code <= CODE_MAX
-}
-
-fn in_tenths(code: i32) -> i32
-    requires { legal_code code ≡ true }
+fn in_tenths(code: Code) -> i32
     ensures is { result ≡ pos 10 *ℤ code }
     ensures small { unsigned_abs result ≤ 19999990 }
 {
-    10 * code
+    10 * code.steps
 }
 
 fn offset_by(signal: i32, offset: i32) -> i32
@@ -41,12 +34,11 @@ fn offset_at<P: Plan>(plan: &P, i: u32) -> i32
 }
 
 // The level of observation i.
-fn shifted<P: Plan>(plan: &P, signal: i32, i: u32) -> i32
-    requires { unsigned_abs signal ≤ 20000000 }
-    ensures is { result ≡ level_at (P.Plan.meaning plan.now) signal i }
+fn shifted<P: Plan>(plan: &P, setting: Setting, i: u32) -> i32
+    ensures is { result ≡ level_at (P.Plan.meaning plan.now) setting.signal i }
     ensures small { unsigned_abs result ≤ 20000048 }
 {
-    offset_by(signal, offset_at(plan, i))
+    offset_by(setting.signal, offset_at(plan, i))
 }
 
 fn difference(a: i32, b: i32) -> i32
@@ -57,54 +49,46 @@ fn difference(a: i32, b: i32) -> i32
 }
 
 // The error of a code at the level of observation i, in tenths.
-pub(crate) fn error_of<P: Plan>(plan: &P, signal: i32, i: u32, code: i32) -> i32
-    requires signal { unsigned_abs signal ≤ 20000000 }
-    requires legal { legal_code code ≡ true }
-    ensures { result ≡ error_at (P.Plan.meaning plan.now) signal i code }
+pub(crate) fn error_of<P: Plan>(plan: &P, setting: Setting, i: u32, code: Code) -> i32
+    ensures { result ≡ error_at (P.Plan.meaning plan.now) setting.signal i code }
 {
-    difference(in_tenths(code), shifted(plan, signal, i))
-}
-
-// What is to be set while a point settles: the main signal.
-pub fn settling_level<M: Plan, S: Plan>(
-    main: &M,
-    short: &S,
-    control: Control,
-    carried: Carried,
-    point: Unsettled,
-) -> Level
-    ensures { result ≡ settling_level_of (M.Plan.meaning main.now) (S.Plan.meaning short.now) control carried point }
-{
-    let soonest = match begins_with(control, carried) {
-        PlanUsed::Main => soonest_fit(main, 0, 0),
-        PlanUsed::Short => soonest_fit(short, 0, 0),
-    };
-    Level {
-        tenths: point.setting.signal,
-        observation: 0,
-        soonest,
-    }
+    difference(in_tenths(code), shifted(plan, setting, i))
 }
 
 fn level_on<P: Plan>(plan: &P, trial: Trial) -> Level
-    requires { Within trial }
     ensures { result ≡ observing_level_of (P.Plan.meaning plan.now) trial }
 {
     let made = trial.tally.observations;
     Level {
-        tenths: shifted(plan, trial.setting.signal, made + 1),
-        observation: made + 1,
+        tenths: shifted(plan, trial.setting, made + 1),
+        observation: Some(made + 1),
         soonest: soonest_fit(plan, made, trial.tally.outs),
     }
 }
 
-// What is to be set for the coming observation.
-pub fn observing_level<M: Plan, S: Plan>(main: &M, short: &S, trial: Trial) -> Level
-    requires { Within trial }
-    ensures { result ≡ observing_level_of (plan_of (M.Plan.meaning main.now) (S.Plan.meaning short.now) trial.course) trial }
-{
-    match trial.course {
-        Course::Main(_) => level_on(main, trial),
-        Course::Short => level_on(short, trial),
+impl<M: Plan, S: Plan> Plans<M, S> {
+    // What is to be set while a point settles: the main signal.
+    pub fn settling_level(&self, control: Control, carried: Carried, point: Unsettled) -> Level
+        ensures { result ≡ settling_level_of (M.Plan.meaning self.now.main) (S.Plan.meaning self.now.short) control carried point }
+    {
+        let soonest = match begins_with(control, carried) {
+            PlanUsed::Main => soonest_fit(&self.main, 0, 0),
+            PlanUsed::Short => soonest_fit(&self.short, 0, 0),
+        };
+        Level {
+            tenths: point.setting.signal,
+            observation: None,
+            soonest,
+        }
+    }
+
+    // What is to be set for the coming observation.
+    pub fn observing_level(&self, trial: Trial) -> Level
+        ensures { result ≡ observing_level_of (plan_of (M.Plan.meaning self.now.main) (S.Plan.meaning self.now.short) trial.course) trial }
+    {
+        match trial.course {
+            Course::Main(_) => level_on(&self.main, trial),
+            Course::Short => level_on(&self.short, trial),
+        }
     }
 }

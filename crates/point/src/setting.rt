@@ -1,13 +1,14 @@
 // What a point is tried with.
-ghost use Rattle.point.specs.Bounds.{Set};
 ghost use Rattle.point.specs.Settings.{as_given, setting_refusal};
 ghost use Rattle.method.specs.Refusals.{refused_by};
 ghost use Rattle.std.specs.Prelude.{◌≡◌, IfOk};
 
+use control::Permitted;
 use method::Question;
-use method::measures::{AGREEMENT_MAX, METER_ERROR_MAX, METER_ERROR_MIN, SIGNAL_MAX};
+use method::measures::{AGREEMENT_MAX, SIGNAL_MAX};
+use std::marker::Model;
 
-// The main signal and the permitted errors of meter and reference in tenths, and the agreement in steps.
+// The main signal and the permitted errors of meter and reference in tenths, and the agreement in steps, each in its range.
 #[derive(Clone, Copy)]
 pub struct Setting {
     pub signal: i32,
@@ -16,33 +17,39 @@ pub struct Setting {
     pub agreement: u32,
 }
 
-// The numbers as a setting, where each is in its range.
-pub fn check_setting(
-    signal: i32,
-    meter: i32,
-    reference: i32,
-    agreement: i32,
-) -> Result<Setting, Question>
-    ensures refuses { refused_by result ≡ setting_refusal signal meter reference agreement }
-    ensures makes { IfOk result (λ g. g ≡ as_given signal meter reference agreement) }
-    ensures set { IfOk result (λ g. Set g) }
-{
-    if signal < -SIGNAL_MAX || signal > SIGNAL_MAX {
-        return Err(Question::SignalInRange);
+impl Model for Setting {
+    ghost use Rattle.point.specs.Values.{Given};
+
+    ghost Value = { Given };
+
+    ghost use Rattle.point.specs.Bounds.{Set};
+
+    ghost view = { λ g. record { signal = g.signal; meter = g.meter; reference = g.reference; agreement = g.agreement } };
+
+    ghost invariant = { λ g. Set (record { signal = g.signal; meter = g.meter; reference = g.reference; agreement = g.agreement }) };
+
+    ghost inverse = { λ v. record { signal = v.signal; meter = v.meter; reference = v.reference; agreement = v.agreement } };
+}
+
+impl Setting {
+    // The numbers as a setting, where each is in its range.
+    pub fn new(signal: i32, meter: i32, reference: i32, agreement: i32) -> Result<Setting, Question>
+        ensures refuses { refused_by result ≡ setting_refusal signal meter reference agreement }
+        ensures makes { IfOk result (λ g. g ≡ as_given signal meter reference agreement) }
+    {
+        // Not by `contains`: the clause of the refusals behind did not close.
+        if signal < -SIGNAL_MAX || signal > SIGNAL_MAX {
+            return Err(Question::SignalInRange);
+        }
+        let permitted = Permitted::new(meter, reference)?;
+        if !(0..=AGREEMENT_MAX).contains(&agreement) {
+            return Err(Question::AgreementInRange);
+        }
+        Ok(Setting {
+            signal,
+            meter: permitted.meter(),
+            reference: permitted.reference(),
+            agreement: agreement.unsigned_abs(),
+        })
     }
-    if meter < METER_ERROR_MIN || meter > METER_ERROR_MAX {
-        return Err(Question::MeterErrorInRange);
-    }
-    if reference < 0 || reference > meter {
-        return Err(Question::ReferenceErrorInRange);
-    }
-    if agreement < 0 || agreement > AGREEMENT_MAX {
-        return Err(Question::AgreementInRange);
-    }
-    Ok(Setting {
-        signal,
-        meter: meter as u32,
-        reference: reference as u32,
-        agreement: agreement as u32,
-    })
 }

@@ -6,7 +6,7 @@ mod result_text;
 
 use journal::{Place, Reader, Record};
 use point_text::{print_sequence, print_three_step};
-use report::{HexError, Outcome, bytes_of_hex, outcome_after};
+use report::{Outcome, bytes_of_hex, outcome_after};
 use result_text::{print_certificate, print_fault, print_lack, print_notice, print_result};
 use std::io::{BufWriter, Read, Write};
 use std::{env, fs, io};
@@ -51,20 +51,12 @@ fn print_protocol(out: &mut impl Write, journal: &[u8]) -> io::Result<()> {
     print_lack(out, outcome)
 }
 
-fn print_hex_error(out: &mut impl Write, error: HexError) -> io::Result<()> {
-    match error {
-        HexError::NotHex => writeln!(out, "The input is not hexadecimal."),
-        HexError::OddDigits => writeln!(out, "The input has an odd number of hexadecimal digits."),
-        HexError::NoMemory => writeln!(out, "There is not enough memory for the input."),
-    }
-}
-
 fn print_input(rt: &HostRuntime, out: &mut impl Write) -> io::Result<()> {
     let mut text = Vec::new(rt.alloc());
     rt.stdin().read_to_end(&mut text)?;
     match bytes_of_hex(rt.alloc(), text.as_slice()) {
         Ok(journal) => print_protocol(out, journal.as_slice()),
-        Err(error) => print_hex_error(out, error),
+        Err(error) => writeln!(out, "{error}"),
     }
 }
 

@@ -1,8 +1,7 @@
 // The entries of a point, in the order of the method's forms.
-use journal::{FirstAttempt, Quantity, SequenceFields, ThreeStepFields};
+use journal::{FirstAttempt, SequenceFields, ThreeStepFields};
 use report::{
-    Decimal, Places, Ratio, SettlingEnd, attempts_made, limit_size, mean_size, ratio_size,
-    settling_end,
+    Decimal, Places, Ratio, attempts_made, limit_size, mean_size, ratio_size, settling_end,
 };
 use std::io;
 use std::io::Write;
@@ -12,11 +11,7 @@ const THREE: i32 = 3;
 
 fn print_head(out: &mut impl Write, point: i32, settling_codes: i32) -> io::Result<()> {
     writeln!(out, "Point {point}")?;
-    let end = match settling_end(settling_codes) {
-        SettlingEnd::Late => "broken off as late",
-        SettlingEnd::AgreementOrLate => "agreed or broken off as late, which is not recorded",
-        SettlingEnd::LimitAtLatest => "ended at the limit at the latest",
-    };
+    let end = settling_end(settling_codes);
     writeln!(out, "  settling codes: {settling_codes}, {end}")
 }
 
@@ -40,12 +35,12 @@ fn print_attempts(out: &mut impl Write, first: FirstAttempt) -> io::Result<()> {
     }
 }
 
+fn signed(units: i32, places: Places) -> Decimal {
+    Decimal::new(units < 0, u64::from(units.unsigned_abs()), places)
+}
+
 fn print_tolerance(out: &mut impl Write, tolerance: i32) -> io::Result<()> {
-    let steps = Decimal::new(
-        tolerance < 0,
-        u64::from(tolerance.unsigned_abs()),
-        Places::Five,
-    );
+    let steps = signed(tolerance, Places::Five);
     writeln!(out, "  tolerance, steps: {steps}")
 }
 
@@ -87,11 +82,7 @@ fn print_estimates(out: &mut impl Write, fields: &SequenceFields) -> io::Result<
         fields.sum,
         limit_size(fields),
     )?;
-    let quantity = match fields.quantity {
-        Quantity::NotAsked => "not asked",
-        Quantity::Fit => "fit",
-        Quantity::Unfit => "unfit",
-    };
+    let quantity = fields.quantity;
     writeln!(out, "  quantity: {quantity}")?;
     let mean = mean_size(fields.sum, fields.observations);
     print_size(out, "mean error (systematic part), steps", fields.sum, mean)?;
@@ -127,11 +118,7 @@ pub fn print_three_step(out: &mut impl Write, fields: &ThreeStepFields) -> io::R
     writeln!(out, "  attempts: one, short")?;
     writeln!(out, "  observations: not recorded")?;
     print_tolerance(out, fields.tolerance)?;
-    let sum = Decimal::new(
-        fields.sum < 0,
-        u64::from(fields.sum.unsigned_abs()),
-        Places::One,
-    );
+    let sum = signed(fields.sum, Places::One);
     writeln!(out, "  sum of errors, steps: {sum}")?;
     let mean = mean_size(fields.sum, THREE);
     print_size(

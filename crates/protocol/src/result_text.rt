@@ -1,5 +1,5 @@
 // Certificates, notices and faults, and the sentence of a verification's result.
-use journal::{CertificateFields, Fault, Layer, NoticeFields, Signal};
+use journal::{CertificateFields, Fault, NoticeFields};
 use report::Outcome;
 use std::io;
 use std::io::Write;
@@ -18,16 +18,8 @@ pub fn print_certificate(out: &mut impl Write, fields: &CertificateFields) -> io
     writeln!(out, "  verdict: {verdict}")
 }
 
-fn signal_name(signal: Signal) -> &'static str {
-    match signal {
-        Signal::Inspection => "inspection",
-        Signal::Trial => "trial",
-        Signal::Insulation => "insulation",
-    }
-}
-
 pub fn print_notice(out: &mut impl Write, fields: &NoticeFields) -> io::Result<()> {
-    let failed = signal_name(fields.failed);
+    let failed = fields.failed;
     writeln!(out, "Notice")?;
     writeln!(out, "  failed: {failed}")
 }
@@ -35,11 +27,7 @@ pub fn print_notice(out: &mut impl Write, fields: &NoticeFields) -> io::Result<(
 pub fn print_fault(out: &mut impl Write, fault: Fault) -> io::Result<()> {
     let ordinal = fault.place.ordinal;
     let first = fault.place.first_byte;
-    let layer = match fault.layer {
-        Layer::Kind => "kind",
-        Layer::Bits => "bits",
-        Layer::Field => "field",
-    };
+    let layer = fault.layer;
     let number = fault.question.number();
     let question = fault.question;
     writeln!(
@@ -102,8 +90,7 @@ pub fn print_result(out: &mut impl Write, outcome: Outcome) -> io::Result<()> {
     match outcome {
         Outcome::Fit(fields) => print_fit(out, fields),
         Outcome::Unfit(fields) => print_unfit(out, fields),
-        Outcome::NotBegun(signal) => {
-            let failed = signal_name(signal);
+        Outcome::NotBegun(failed) => {
             writeln!(out, "The verification did not begin: the {failed} failed.")
         }
         Outcome::NoCertificate(_) => Ok(()),

@@ -34,13 +34,6 @@ pub struct Example {
     pub verdict: Verdict,
 }
 
-fn quantity_of(verdict: Verdict) -> Quantity {
-    match verdict {
-        Verdict::Fit => Quantity::Fit,
-        Verdict::Unfit => Quantity::Unfit,
-    }
-}
-
 impl Example {
     // Whether the permitted errors used are the printed ones.
     fn is_exact(self) -> bool {
@@ -113,16 +106,13 @@ impl Example {
                 second,
             ),
         };
-        let outs = match self.outs {
-            Some(outs) => i32::from(outs),
-            None => found.outs,
-        };
+        let outs = self.outs.map_or(found.outs, i32::from);
         Ok(SequenceFields {
             first_attempt: self.first_attempt()?,
             observations: i32::from(last.observations),
             outs,
             sequence: last.sequence,
-            quantity: quantity_of(last.quantity),
+            quantity: Quantity::from(Some(last.quantity)),
             wild: false,
             dominance: last.dominance,
             verdict: self.verdict,
@@ -137,14 +127,8 @@ impl Example {
         let mut bench = begin(1, FULL, plan)?;
         bench.open(0, i32::from(self.meter), i32::from(self.reference), 0)?;
         let course = observe(&mut bench, self.bias)?;
-        let earlier = match self.second {
-            None => 0,
-            Some(_) => self.first.observations,
-        };
-        assert_eq!(rt;
-            (self.number, course.earlier),
-            (self.number, u32::from(earlier))
-        );
+        let earlier = self.second.map(|_| u32::from(self.first.observations));
+        assert_eq!(rt; (self.number, course.earlier), (self.number, earlier));
         let Record::Sequence(found) = closed(&mut bench)? else {
             return Err(Fail::new("another record"));
         };

@@ -28,12 +28,11 @@ pub enum Bias {
 
 // The bias of an observation, and the first pulse that falls on it.
 fn pulsed(bias: i16, pulses: [Pulse; 4], observation: u32) -> i32 {
-    for pulse in pulses {
-        if pulse.observation == observation {
-            return i32::from(bias) + i32::from(pulse.size);
-        }
-    }
-    i32::from(bias)
+    let size = pulses
+        .iter()
+        .find(|pulse| pulse.observation == observation)
+        .map_or(0, |pulse| i32::from(pulse.size));
+    i32::from(bias) + size
 }
 
 impl Bias {
@@ -53,7 +52,7 @@ impl Bias {
                 from,
                 to,
             } => {
-                if from <= observation && observation <= to {
+                if (from..=to).contains(&observation) {
                     i32::from(inner)
                 } else {
                     i32::from(outer)

@@ -1,7 +1,7 @@
 // Table 4: normal control.
 use crate::example::{Attempt, Example};
 use crate::meter::{Bias, Pulse};
-use method::{Truncated, Verdict};
+use method::{Line, Truncated, Verdict};
 use std::test::Fail;
 
 const NO_PULSE: Pulse = Pulse {
@@ -339,7 +339,7 @@ const TABLE_4: [Example; 15] = [
 #[test]
 fn the_examples_of_normal_control(rt: HostRuntime) -> Result<(), Fail> {
     for example in TABLE_4 {
-        example.run(&rt, Truncated::normal())?;
+        example.run(&rt, Truncated::standard(Line::Normal))?;
     }
     Ok(())
 }
@@ -362,5 +362,5 @@ const EXAMPLE_2_UNROUNDED: Example = Example {
 
 #[test]
 fn example_2_with_its_tolerance_unrounded(rt: HostRuntime) -> Result<(), Fail> {
-    EXAMPLE_2_UNROUNDED.run(&rt, Truncated::normal())
+    EXAMPLE_2_UNROUNDED.run(&rt, Truncated::standard(Line::Normal))
 }

@@ -112,7 +112,7 @@ fn errors_at(rt: &impl Abort, level: i32, row: Row) -> Result<(), Fail> {
 // At the signal 0 the level of an observation is its offset.
 #[test]
 fn the_meter_shows_table_1(rt: HostRuntime) -> Result<(), Fail> {
-    let plan = Truncated::strengthened();
+    let plan = Truncated::standard(Line::Strengthened);
     for row in TABLE_1 {
         errors_at(&rt, plan.offset(u32::from(row.0)), row)?;
     }
@@ -122,7 +122,7 @@ fn the_meter_shows_table_1(rt: HostRuntime) -> Result<(), Fail> {
 // Table 2 is of a signal that goes on rising after observation 20, where formula (3.2), and our plan, have it fall again.
 #[test]
 fn the_meter_shows_table_2(rt: HostRuntime) -> Result<(), Fail> {
-    let plan = Truncated::normal();
+    let plan = Truncated::standard(Line::Normal);
     for row in TABLE_2 {
         let level = i32::from(row.0) - 10;
         errors_at(&rt, level, row)?;
@@ -147,10 +147,10 @@ fn lines_round(rt: &impl Abort, plan: Truncated<Line>, row: Row) -> Result<(), F
 #[test]
 fn the_plans_have_the_printed_lines(rt: HostRuntime) -> Result<(), Fail> {
     for row in TABLE_1 {
-        lines_round(&rt, Truncated::strengthened(), row)?;
+        lines_round(&rt, Truncated::standard(Line::Strengthened), row)?;
     }
     for row in TABLE_2 {
-        lines_round(&rt, Truncated::normal(), row)?;
+        lines_round(&rt, Truncated::standard(Line::Normal), row)?;
     }
     Ok(())
 }

@@ -2,7 +2,7 @@
 use crate::drive::{Bench, REDUCED, begin, closed, observe};
 use crate::meter::{Bias, code_at, error_at};
 use journal::{FirstAttempt, Record, SequenceFields, ThreeStepFields};
-use method::{Plan, ThreeStep, Truncated, Verdict};
+use method::{Line, Plan, ThreeStep, Truncated, Verdict};
 use std::process::Abort;
 use std::test::Fail;
 
@@ -54,12 +54,12 @@ fn the_meter_shows_table_5(rt: HostRuntime) -> Result<(), Fail> {
 
 // Example 5 of table 4 is fit with dominance, so the point that is opened behind it begins short.
 fn second_point(rt: &impl Abort, example: ShortExample) -> Result<Bench, Fail> {
-    let mut bench = begin(2, REDUCED, Truncated::normal())?;
+    let mut bench = begin(2, REDUCED, Truncated::standard(Line::Normal))?;
     bench.open(0, 52, 10, 0)?;
-    assert_eq!(rt; observe(&mut bench, Bias::Steady(40))?.last, 15);
+    assert_eq!(rt; observe(&mut bench, Bias::Steady(40))?.last, Some(15));
     closed(&mut bench)?;
     bench.open(0, example.meter, example.reference, 0)?;
-    assert_eq!(rt; bench.level()?.soonest, 3);
+    assert_eq!(rt; bench.level()?.soonest, Some(3));
     Ok(bench)
 }
 
@@ -68,7 +68,7 @@ fn fit_examples_of_three_step_control(rt: HostRuntime) -> Result<(), Fail> {
     for (example, sum) in [(EXAMPLE_2, 130), (EXAMPLE_3, 40)] {
         let mut bench = second_point(&rt, example)?;
         let course = observe(&mut bench, Bias::Steady(example.bias))?;
-        assert_eq!(rt; (course.earlier, course.last), (0, 3));
+        assert_eq!(rt; (course.earlier, course.last), (None, Some(3)));
         assert_eq!(rt; course.verdict, Verdict::Fit);
         let record = Record::ThreeStep(ThreeStepFields {
             point: 2,
@@ -93,7 +93,7 @@ fn an_unfit_three_step_attempt_is_followed_by_normal_control(rt: HostRuntime) ->
     let level = bench.level()?;
     assert_eq!(rt;
         (level.tenths, level.observation, level.soonest),
-        (-9, 1, 15)
+        (-9, Some(1), Some(15))
     );
     Ok(())
 }
@@ -111,7 +111,7 @@ fn main_record(bench: &mut Bench) -> Result<SequenceFields, Fail> {
 fn example_1_is_unfit_under_the_uniform_distribution(rt: HostRuntime) -> Result<(), Fail> {
     let mut bench = second_point(&rt, EXAMPLE_1)?;
     let course = observe(&mut bench, Bias::Steady(EXAMPLE_1.bias))?;
-    assert_eq!(rt; (course.earlier, course.last), (1, 13));
+    assert_eq!(rt; (course.earlier, course.last), (Some(1), Some(13)));
     let fields = main_record(&mut bench)?;
     assert_eq!(rt; fields.first_attempt, FirstAttempt::ShortUnfit);
     assert_eq!(rt; (fields.outs, fields.tolerance), (4, EXAMPLE_1.tolerance));
@@ -122,10 +122,10 @@ fn example_1_is_unfit_under_the_uniform_distribution(rt: HostRuntime) -> Result<
 // As a first point, under the trapezoid distribution, it is fit as the print says.
 #[test]
 fn example_1_is_fit_under_the_trapezoid_distribution(rt: HostRuntime) -> Result<(), Fail> {
-    let mut bench = begin(1, REDUCED, Truncated::normal())?;
+    let mut bench = begin(1, REDUCED, Truncated::standard(Line::Normal))?;
     bench.open(0, EXAMPLE_1.meter, EXAMPLE_1.reference, 0)?;
     let course = observe(&mut bench, Bias::Steady(EXAMPLE_1.bias))?;
-    assert_eq!(rt; (course.earlier, course.last), (0, 40));
+    assert_eq!(rt; (course.earlier, course.last), (None, Some(40)));
     let fields = main_record(&mut bench)?;
     assert_eq!(rt; (fields.outs, fields.tolerance), (4, 175_492));
     assert_eq!(rt; fields.verdict, Verdict::Fit);

@@ -1,7 +1,7 @@
 // Table 3: strengthened control.
 use crate::example::{Attempt, Example};
 use crate::meter::Bias;
-use method::{Truncated, Verdict};
+use method::{Line, Truncated, Verdict};
 use std::test::Fail;
 
 const UNFIT_AT_4: Attempt = Attempt {
@@ -204,7 +204,7 @@ const TABLE_3: [Example; 11] = [
 #[test]
 fn the_examples_of_strengthened_control(rt: HostRuntime) -> Result<(), Fail> {
     for example in TABLE_3 {
-        example.run(&rt, Truncated::strengthened())?;
+        example.run(&rt, Truncated::standard(Line::Strengthened))?;
     }
     Ok(())
 }

@@ -4,7 +4,7 @@ ghost use Rattle.std.specs.Prelude.{◌≤◌};
 // N, the size of S, and V = N Q - S S.
 #[derive(Clone, Copy)]
 pub(crate) struct Dispersion {
-    pub(crate) observations: u64,
+    pub(crate) observations: u32,
     pub(crate) size: u64,
     pub(crate) spread: u64,
     ghost two: { 2 ≤ observations },

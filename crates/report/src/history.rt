@@ -3,6 +3,7 @@ ghost use Rattle.report.specs.History.{attempts, settled_by};
 ghost use Rattle.std.specs.Prelude.{◌≡◌};
 
 use journal::FirstAttempt;
+use std::fmt;
 
 // What can have ended a settling: agreement takes three codes, and none comes after the 200th.
 #[derive(Clone, Copy, PartialEq, Eq, Debug)]
@@ -10,6 +11,16 @@ pub enum SettlingEnd {
     Late,
     AgreementOrLate,
     LimitAtLatest,
+}
+
+impl fmt::Display for SettlingEnd {
+    fn fmt<W: fmt::Write>(&self, f: &mut fmt::Formatter<W>) -> fmt::Result {
+        f.write_str(match self {
+            SettlingEnd::Late => "broken off as late",
+            SettlingEnd::AgreementOrLate => "agreed or broken off as late, which is not recorded",
+            SettlingEnd::LimitAtLatest => "ended at the limit at the latest",
+        })
+    }
 }
 
 // What can have ended a settling of so many codes.

@@ -6,7 +6,7 @@ use Rattle.runs.specs.Answers.{accepts_code, codes_accepted, overlaid}
 use Rattle.runs.specs.Runs.{answer_to, answers_to, bytes_after, bytes_left, came, step}
 use Rattle.runs.specs.declared.answer.Answer.{Answer}
 use Rattle.runs.specs.declared.call.Call.{Call}
-use Rattle.verification.specs.Certificates.{certifying, certifying_bytes}
+use Rattle.verification.specs.Standings.{Standing}
 use Rattle.verification.specs.declared.declared.Declared.{Declared}
 use Rattle.verification.specs.declared.progress.Progress.{Progress}
 
@@ -87,15 +87,10 @@ all_through {m} {s} {d} {len} {p} {row} {bytes} cs i l h =
       written = h.written ∙ ap (λ (ys : List Call). bytes_left m s d len p ys bytes) all;
     }
 
--- under equal plans, orders and beginnings
-pub alike : {X : Type 0} (F : Meaning → Meaning → Declared → Progress → X) {m m' s s' : Meaning} {d d' : Declared} {p p' : Progress} → m' ≡ m → s' ≡ s → d' ≡ d → p' ≡ p → F m' s' d' p' ≡ F m s d p
-alike F {m} {m'} {s} {s'} {d} {d'} {p} {p'} em es ed ep =
-    ap (λ (y : Meaning). F y s' d' p') em ∙ ap (λ (y : Meaning). F m y d' p') es ∙ ap (λ (y : Declared). F m s y p') ed ∙ ap (λ (y : Progress). F m s d y) ep
+abbrev pub at_progress : {M S : Type 0} → Standing M S → Progress → Standing M S
+at_progress w p = record w { progress = p }
 
-pub certified_alike : (place : ℕ) {d d' : Declared} {p p' : Progress} {len len' : ℕ} → d' ≡ d → p' ≡ p → len' ≡ len → certifying d' p' place len' ≡ certifying d p place len
-certified_alike place {d} {d'} {p} {p'} {len} {len'} ed ep el =
-    ap (λ (y : Declared). certifying y p' place len') ed ∙ ap (λ (y : Progress). certifying d y place len') ep ∙ ap (λ (y : ℕ). certifying d p place y) el
-
-pub certificate_alike : (place : ℕ) {d d' : Declared} {p p' : Progress} {old old' : List ℕ} → d' ≡ d → p' ≡ p → old' ≡ old → certifying_bytes d' p' place old' ≡ certifying_bytes d p place old
-certificate_alike place {d} {d'} {p} {p'} {old} {old'} ed ep eo =
-    ap (λ (y : Declared). certifying_bytes y p' place old') ed ∙ ap (λ (y : Progress). certifying_bytes d y place old') ep ∙ ap (λ (y : List ℕ). certifying_bytes d p place y) eo
+-- where only the progress changes, and then only the progress again
+pub only_progress : {M S : Type 0} (a : Standing M S) {b c : Standing M S} {p : Progress} → b ≡ at_progress a b.progress → c ≡ at_progress b p → c ≡ at_progress a c.progress
+only_progress {M} {S} a {b} {c} {p} first second =
+    second ∙ ap (λ (w : Standing M S). at_progress w p) first ∙ ap (at_progress a) (sym (ap (λ (w : Standing M S). w.progress) second))

@@ -1,6 +1,6 @@
 -- The points that a list of calls has closed.
-use Rattle.std.proofs.Common.{◌≡◌, ℕ, ◌+◌, true, false, cond, List, [], ◌∷◌, ℤ, pos, is_ok, Some, None, Ok, Err, Option, Result, sym, refl, ap, ◌∙◌, add-zero, add_assoc, arith}
-use Rattle.std.proofs.lemmas.Bool.{cond_both, false≢true}
+use Rattle.std.proofs.Common.{◌≡◌, ℕ, ◌+◌, true, cond, List, [], ◌∷◌, ℤ, pos, is_ok, Some, None, Ok, Err, Option, Result, sym, refl, ap, ◌∙◌, add-zero, add_assoc}
+use Rattle.std.proofs.lemmas.Bool.{cond_both}
 use Rattle.method.specs.Meaning.{Meaning, Ranged}
 use Rattle.method.specs.declared.question.Question.{Question}
 use Rattle.method.specs.declared.question.Question.TheVariants.{CodeLegal, NotEnded}
@@ -12,6 +12,7 @@ use Rattle.point.specs.declared.phase.Phase.{Phase}
 use Rattle.point.specs.declared.phase.Phase.TheVariants.{Waiting, Settling, Observing, Decided}
 use Rattle.point.specs.declared.setting.Setting.{Setting}
 use Rattle.runs.proofs.Hearing.{judged_by_codes}
+use Rattle.runs.proofs.Counting.{never, zero_plus}
 use Rattle.runs.specs.Answers.{closes, one_unfit, points_closed, points_unfit, verdict_closed, verdict_told}
 use Rattle.runs.specs.Laws.{ClosedAsJudged, PointsCounted}
 use Rattle.runs.specs.Runs.{answer_to, answers_to, came, step}
@@ -19,12 +20,9 @@ use Rattle.runs.specs.declared.call.Call.{Call}
 use Rattle.runs.specs.declared.call.Call.TheVariants.{Open, Level, Code, Late, Close}
 use Rattle.verification.specs.Calls.{Reply, closed_at, closed_by, coded_at, coded_to, done, fresh, late_at, one_more, opened_at, opened_with, refused}
 use Rattle.verification.specs.Ordering.{ended}
-use Rattle.verification.specs.declared.closed.Closed.{Closed}
+use Rattle.verification.specs.declared.written.Written.{Written}
 use Rattle.verification.specs.declared.declared.Declared.{Declared}
 use Rattle.verification.specs.declared.progress.Progress.{Progress}
-
-never : {A : Type 0} → false ≡ true → A
-never e = absurd (false≢true e)
 
 -- Only a closing changes the points closed and those unfit.
 module _ (p : Progress) where
@@ -50,7 +48,7 @@ module _ (p : Progress) where
   code_to_kept : (c : ℤ) (f : Phase) → Kept (coded_to p c f)
   code_to_kept c f = cond_both (legal_code c) (done (one_more p f) (reached f)) (refused p CodeLegal) (λ r. Kept r) (λ _. same) (λ _. same)
 
-  abbrev Closes : Reply Closed → Type 0
+  abbrev Closes : Reply Written → Type 0
   Closes r = Raises (cond (is_ok r.answer) 1 0) (one_unfit (verdict_closed r.answer)) r.after
 
   closed_by_closes : (o : Outcome) (r : Result ℕ Question) → Closes (closed_by p o r)
@@ -98,14 +96,11 @@ module _ (m s : Meaning) (d : Declared) (len : ℕ) where
       unfit_so q cs ∙ ap (λ (n : ℕ). n + points_unfit (answers_to m s d len q cs)) (raised p m s d len c).1
       ∙ add_assoc p.unfit (one_unfit (verdict_told (answer_to m s d len p c))) (points_unfit (answers_to m s d len q cs))
 
-zero_plus : (n : ℕ) → 0 + n ≡ n
-zero_plus n = omega arith
-
 pub points_counted : (m s : Meaning) → PointsCounted m s
 points_counted m s d len cs = (ap pos (closed_so m s d len fresh cs ∙ zero_plus _), ap pos (unfit_so m s d len fresh cs ∙ zero_plus _))
 
 -- An accepted closing answers what the point has reached.
-abbrev Tells : Phase → Reply Closed → Type 0
+abbrev Tells : Phase → Reply Written → Type 0
 Tells f r = is_ok r.answer ≡ true → verdict_closed r.answer ≡ reached f
 
 closed_by_tells : (p : Progress) (o : Outcome) (r : Result ℕ Question) → Tells (Decided o) (closed_by p o r)

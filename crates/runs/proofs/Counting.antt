@@ -39,11 +39,11 @@ use Rattle.runs.specs.declared.call.Call.{Call}
 use Rattle.runs.specs.declared.call.Call.TheVariants.{Open, Level, Code, Late, Close}
 use Rattle.verification.specs.Calls.{Reply, closed_at, closed_by, coded_at, coded_to, done, fresh, late_at, one_more, opened_at, opened_with, opening, refused}
 use Rattle.verification.specs.Ordering.{ended}
-use Rattle.verification.specs.declared.closed.Closed.{Closed}
+use Rattle.verification.specs.declared.written.Written.{Written}
 use Rattle.verification.specs.declared.declared.Declared.{Declared}
 use Rattle.verification.specs.declared.progress.Progress.{Progress}
 
-never : {A : Type 0} → false ≡ true → A
+pub never : {A : Type 0} → false ≡ true → A
 never e = absurd (false≢true e)
 
 abbrev one : {A : Type 0} → Result A Question → ℕ
@@ -110,7 +110,7 @@ total m s d len p (c ∷ cs) =
     total m s d len q cs ∙ ap (λ (n : ℕ). n + codes_accepted (answers_to m s d len q cs)) (raised p m s d len c)
     ∙ add_assoc p.codes (cond (accepts_code (answer_to m s d len p c)) 1 0) (codes_accepted (answers_to m s d len q cs))
 
-zero_plus : (n : ℕ) → 0 + n ≡ n
+pub zero_plus : (n : ℕ) → 0 + n ≡ n
 zero_plus n = omega arith
 
 pub counts : (m s : Meaning) → Counts m s
@@ -228,7 +228,7 @@ module _ (m s : Meaning) (rm : Ranged m) (rs : Ranged s) (d : Declared) (len : �
   late_stays (Observing _) e x = itself
   late_stays (Decided _) e x = itself
 
-  abbrev UnlessClosed : Reply Closed → Type 0
+  abbrev UnlessClosed : Reply Written → Type 0
   UnlessClosed r = is_ok r.answer ≡ false → Stays 0 r.after
 
   closed_by_stays : (o : Outcome) (r : Result ℕ Question) → UnlessClosed (closed_by p o r)

@@ -1,6 +1,6 @@
 -- What the calls of a list make of a verification they make of its open point.
 use Rattle.std.proofs.Common.{◌≡◌, ℕ, Bool, true, false, cond, not, ◌⊎◌, List, [], ◌∷◌, ℤ, is_ok, Some, None, Ok, Err, Option, Result, sym, refl, ap, ◌∙◌, inl, inr}
-use Rattle.std.proofs.lemmas.Bool.{and_from, and_parts, cases_Bool, cond_both, false≢true, not-true}
+use Rattle.std.proofs.lemmas.Bool.{and_from, and_parts, cases_Bool, cond_both, not-true}
 use Rattle.method.specs.Meaning.{Meaning, Ranged}
 use Rattle.method.specs.declared.question.Question.{Question}
 use Rattle.method.specs.declared.question.Question.TheVariants.{CodeLegal, NotEnded}
@@ -13,7 +13,7 @@ use Rattle.point.specs.declared.phase.Outcome.{Outcome}
 use Rattle.point.specs.declared.phase.Phase.{Phase}
 use Rattle.point.specs.declared.phase.Phase.TheVariants.{Waiting, Settling, Observing, Decided}
 use Rattle.point.specs.declared.setting.Setting.{Setting}
-use Rattle.runs.proofs.Counting.{Small, begins_point, stays}
+use Rattle.runs.proofs.Counting.{Small, begins_point, never, stays}
 use Rattle.runs.proofs.Judging.{heard, heard_all, judged_so, late_to}
 use Rattle.runs.specs.Answers.{closes, none_closed, opens}
 use Rattle.runs.specs.Laws.{JudgedByCodes, OpenedOnce, Since}
@@ -22,12 +22,9 @@ use Rattle.runs.specs.declared.call.Call.{Call}
 use Rattle.runs.specs.declared.call.Call.TheVariants.{Open, Level, Code, Late, Close}
 use Rattle.verification.specs.Calls.{Reply, closed_at, closed_by, coded_at, coded_to, done, fresh, late_at, one_more, opened_at, opened_with, refused}
 use Rattle.verification.specs.Ordering.{ended}
-use Rattle.verification.specs.declared.closed.Closed.{Closed}
+use Rattle.verification.specs.declared.written.Written.{Written}
 use Rattle.verification.specs.declared.declared.Declared.{Declared}
 use Rattle.verification.specs.declared.progress.Progress.{Progress}
-
-never : {A : Type 0} → false ≡ true → A
-never e = absurd (false≢true e)
 
 -- the point has come to f, what was carried to it stays, and the verification goes on
 record Led (d : Declared) (h : Carried) (f : Phase) (q : Progress) : Type 0 where
@@ -75,7 +72,7 @@ module _ (m s : Meaning) (d : Declared) (len : ℕ) (p : Progress) (small : Smal
   late_heard (Observing a) e x = at (late_to m s d.control p.carried p.phase) (e ∙ sym (ap (late_to m s d.control p.carried) e))
   late_heard (Decided o) e x = at (late_to m s d.control p.carried p.phase) (e ∙ sym (ap (late_to m s d.control p.carried) e))
 
-  abbrev UnlessClosed : ℕ → Reply Closed → Type 0
+  abbrev UnlessClosed : ℕ → Reply Written → Type 0
   UnlessClosed place r = is_ok r.answer ≡ false → Heard (Close place) r.after
 
   closed_by_heard : (place : ℕ) (o : Outcome) (r : Result ℕ Question) → UnlessClosed place (closed_by p o r)
@@ -165,7 +162,7 @@ module _ (m s : Meaning) (d : Declared) (len : ℕ) (p : Progress) where
   open_was a e r n (Observing _) y x = x
   open_was a e r n (Decided _) y x = x
 
-  abbrev Still : Reply Closed → Type 0
+  abbrev Still : Reply Written → Type 0
   Still r = is_open r.after.phase ≡ true → (is_open p.phase ≡ true) × (is_ok r.answer ≡ false)
 
   closed_by_still : (o : Outcome) (r : Result ℕ Question) → Still (closed_by p o r)

@@ -12,15 +12,16 @@ use Rattle.runs.specs.declared.outcome.Audit.{Audit}
 use Rattle.runs.specs.declared.outcome.Outcome.{Outcome}
 use Rattle.verification.specs.Calls.{fresh}
 use Rattle.verification.specs.Certificates.{certified_by, instrument_verdict}
-use Rattle.verification.specs.Ordering.{as_declared, control_named, ended}
-use Rattle.verification.specs.declared.certified.Certified.{Certified}
+use Rattle.point.specs.Controls.{control_named}
+use Rattle.verification.specs.Ordering.{as_declared, ended}
+use Rattle.verification.specs.declared.written.Written.{Written}
 use Rattle.verification.specs.declared.declared.Declared.{Declared}
 
 -- a certificate is of a verification that has ended, and has its verdict
-certified : (b : Bool) (v : Verdict) (r : Result ℕ Question) (k : Certified) → cond b (certified_by v r) (Err Ended) ≡ Ok k → (b ≡ true) × (k.verdict ≡ v)
+certified : (b : Bool) (v : Verdict) (r : Result ℕ Question) (k : Written) → cond b (certified_by v r) (Err Ended) ≡ Ok k → (b ≡ true) × (k.verdict ≡ v)
 certified true v (Ok n) k e = (refl, told) where
   told : k.verdict ≡ v
-  told = let same : k ≡ record { verdict = v; length = n } = cc in ap (λ (x : Certified). x.verdict) same
+  told = let same : k ≡ record { verdict = v; length = n } = cc in ap (λ (x : Written). x.verdict) same
 certified true v (Err q) k e = let z : ◌≡◌ {A = ℕ} 0 1 = cc in let n : ⊥ = omega arith in absurd n
 certified false v r k e = let z : ◌≡◌ {A = ℕ} 0 1 = cc in let n : ⊥ = omega arith in absurd n
 

@@ -5,7 +5,7 @@ use Rattle.method.specs.Meaning.{Meaning}
 use Rattle.method.specs.declared.question.Question.{Question}
 use Rattle.method.specs.declared.question.Question.TheVariants.{CodeLegal, NotEnded}
 use Rattle.method.specs.declared.verdict.Verdict.TheVariants.{Unfit}
-use Rattle.control.specs.Attempts.{fit_if}
+use Rattle.method.specs.Verdicts.{fit_if}
 use Rattle.point.specs.Levels.{legal_code}
 use Rattle.point.specs.Phases.{reached}
 use Rattle.point.specs.Settings.{as_given, setting_refusal}

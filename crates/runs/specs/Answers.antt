@@ -5,7 +5,7 @@ use Rattle.method.specs.declared.verdict.Verdict.{Verdict}
 use Rattle.runs.specs.declared.answer.Answer.{Answer}
 use Rattle.runs.specs.declared.answer.Answer.TheVariants.{Opened, Leveled, Coded, Belated, Closed as ClosedBy}
 use Rattle.verification.specs.Calls.{unfit_one}
-use Rattle.verification.specs.declared.closed.Closed.{Closed}
+use Rattle.verification.specs.declared.written.Written.{Written}
 
 -- a code was accepted
 abbrev pub accepts_code : Answer → Bool
@@ -32,7 +32,7 @@ closes (Belated r) = false
 closes (ClosedBy r) = is_ok r
 
 -- the verdict of a point that was closed
-abbrev pub verdict_closed : Result Closed Question → Option Verdict
+abbrev pub verdict_closed : Result Written Question → Option Verdict
 verdict_closed (Ok k) = Some k.verdict
 verdict_closed (Err q) = None
 

@@ -5,7 +5,7 @@ use Rattle.runs.specs.Runs.{journal_of, outcome_of}
 use Rattle.runs.specs.declared.call.Call.{Call}
 use Rattle.runs.specs.declared.outcome.Audit.{Audit}
 use Rattle.verification.specs.Ordering.{as_declared}
-use Rattle.verification.specs.declared.certified.Certified.{Certified}
+use Rattle.verification.specs.declared.written.Written.{Written}
 
 -- what the list comes to under each rule, with a buffer of that length
 abbrev pub audited : Meaning → Meaning → ℤ → ℤ → ℕ → ℕ → List Call → Audit
@@ -22,4 +22,4 @@ audited_bytes m s points control place cs old =
 -- ending at the first unfit point took no more codes, and where both were certified the verdicts are equal
 pub record Sparing (a : Audit) : Type 0 where
   pub codes : a.first_unfit.codes ≤ a.all_points.codes
-  pub verdicts : (x y : Certified) → a.first_unfit.certificate ≡ Ok x → a.all_points.certificate ≡ Ok y → x.verdict ≡ y.verdict
+  pub verdicts : (x y : Written) → a.first_unfit.certificate ≡ Ok x → a.all_points.certificate ≡ Ok y → x.verdict ≡ y.verdict

@@ -12,7 +12,7 @@ use crate::outcome::Audit;
 use method::{Plan, Question};
 use verification::{Orders, Ready};
 
-// The orders of an audit: alike but for the stop rule.
+// The orders of an audit: alike but for the stop rule. They are numbers, as orders ask whether a kind is known.
 fn both_orders(points: i32, control: i32) -> Result<(Orders, Orders), Question>
     ensures refuses { refused_by result ≡ orders_refusal points control (pos 1) }
     ensures makes { IfOk result (λ o. (o.0.declared ≡ as_declared points control (pos 1)) × (o.1.declared ≡ as_declared points control (pos 2))) }
@@ -41,10 +41,7 @@ pub fn audit<M: Plan, S: Plan>(
     ensures sparing { IfOk result Sparing }
     ensures laws { Laws (M.Plan.meaning main) (S.Plan.meaning short) }
 {
-    let (stopping, going) = match both_orders(points, control) {
-        Ok(orders) => orders,
-        Err(question) => return Err(question),
-    };
+    let (stopping, going) = both_orders(points, control)?;
     let mut none: [Answer; 0] = [];
     let first_unfit = run(
         first, stopping, main, short, calls, &mut none, scratch, place,

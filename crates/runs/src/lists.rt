@@ -10,16 +10,13 @@ use crate::answer::Answer;
 use crate::call::Call;
 use crate::outcome::Outcome;
 use method::{Plan, Question};
-use verification::{Certified, Orders, Ready, Verification};
+use verification::{Orders, Ready, Verification, Written};
 
 // Makes one call of a list, with the journal that the run was lent.
 fn make<M: Plan, S: Plan>(v: &mut Verification<M, S>, call: Call, journal: &mut [u8]) -> Answer
     ensures answer { result ≡ answer_to (M.Plan.meaning v.old.main) (S.Plan.meaning v.old.short) v.old.declared (length journal.old) v.old.progress call }
-    ensures after { v.new.progress ≡ step (M.Plan.meaning v.old.main) (S.Plan.meaning v.old.short) v.old.declared (length journal.old) v.old.progress call }
+    ensures after { v.new ≡ record v.old { progress = step (M.Plan.meaning v.old.main) (S.Plan.meaning v.old.short) v.old.declared (length journal.old) v.old.progress call } }
     ensures bytes { journal.new ≡ bytes_after v.old.declared v.old.progress call journal.old }
-    ensures declared { v.new.declared ≡ v.old.declared }
-    ensures main { v.new.main ≡ v.old.main }
-    ensures short { v.new.short ≡ v.old.short }
 {
     match call {
         Call::Open {
@@ -39,10 +36,7 @@ fn make<M: Plan, S: Plan>(v: &mut Verification<M, S>, call: Call, journal: &mut 
 fn accepts_code(answer: Answer) -> bool
     ensures { result ≡ accepts_code answer }
 {
-    match answer {
-        Answer::Coded(told) => told.is_ok(),
-        _ => false,
-    }
+    matches!(answer, Answer::Coded(Ok(_)))
 }
 
 // Notes the answer in its place, if there is one.
@@ -63,11 +57,8 @@ fn make_all<M: Plan, S: Plan>(
 ) -> usize
     ensures codes { result ≡ codes_accepted (answers_to (M.Plan.meaning v.old.main) (S.Plan.meaning v.old.short) v.old.declared (length journal.old) v.old.progress calls.now) }
     ensures answers { answers.new ≡ overlaid (answers_to (M.Plan.meaning v.old.main) (S.Plan.meaning v.old.short) v.old.declared (length journal.old) v.old.progress calls.now) answers.old }
-    ensures after { v.new.progress ≡ came (M.Plan.meaning v.old.main) (S.Plan.meaning v.old.short) v.old.declared (length journal.old) v.old.progress calls.now }
+    ensures after { v.new ≡ record v.old { progress = came (M.Plan.meaning v.old.main) (S.Plan.meaning v.old.short) v.old.declared (length journal.old) v.old.progress calls.now } }
     ensures bytes { journal.new ≡ bytes_left (M.Plan.meaning v.old.main) (S.Plan.meaning v.old.short) v.old.declared (length journal.old) v.old.progress calls.now journal.old }
-    ensures declared { v.new.declared ≡ v.old.declared }
-    ensures main { v.new.main ≡ v.old.main }
-    ensures short { v.new.short ≡ v.old.short }
 {
     let mut codes = 0;
     for (i, call) in calls.iter().enumerate() {
@@ -85,14 +76,11 @@ fn finish<M: Plan, S: Plan>(
     v: Verification<M, S>,
     journal: &mut [u8],
     place: usize,
-) -> Result<Certified, Question>
+) -> Result<Written, Question>
     ensures answer { result ≡ certifying v.declared v.progress place (length journal.old) }
     ensures bytes { journal.new ≡ certifying_bytes v.declared v.progress place journal.old }
 {
-    match v.certify(journal, place) {
-        Ok(certified) => Ok(certified),
-        Err((question, _)) => Err(question),
-    }
+    v.certify(journal, place).map_err(|(question, _)| question)
 }
 
 // Makes each call of a list on a new verification, and then writes the certificate at the place named, if it has ended.

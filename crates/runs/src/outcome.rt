@@ -1,16 +1,16 @@
 // What a list of calls comes to.
 use method::Question;
-use verification::Certified;
+use verification::Written;
 
 // The codes accepted, and the certificate that was written then, or the question that stood in its way.
-#[derive(Clone, Copy)]
+#[derive(Clone, Copy, PartialEq, Eq, Debug)]
 pub struct Outcome {
     pub codes: usize,
-    pub certificate: Result<Certified, Question>,
+    pub certificate: Result<Written, Question>,
 }
 
 // One list under the two stop rules.
-#[derive(Clone, Copy)]
+#[derive(Clone, Copy, PartialEq, Eq, Debug)]
 pub struct Audit {
     pub first_unfit: Outcome,
     pub all_points: Outcome,

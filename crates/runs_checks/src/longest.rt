@@ -31,15 +31,11 @@ fn longest_point(rt: &impl Abort, bench: &mut Verification<Tabled, Tabled>) -> R
 
 fn certificate(bench: Verification<Tabled, Tabled>) -> Result<CertificateFields, Fail> {
     let mut journal = [0u8; 8];
-    let Ok(_) = bench.certify(&mut journal, 0) else {
-        return Err(Fail::new("no certificate"));
-    };
-    match Reader::new(&journal).next() {
-        Ok(Some(placed)) => match placed.record {
-            Record::Certificate(fields) => Ok(fields),
-            _ => Err(Fail::new("another record")),
-        },
-        _ => Err(Fail::new("no record")),
+    bench.certify(&mut journal, 0).ok().ok_or("no certificate")?;
+    let placed = Reader::new(&journal).next()?.ok_or("no record")?;
+    match placed.record {
+        Record::Certificate(fields) => Ok(fields),
+        _ => Err(Fail::new("another record")),
     }
 }
 

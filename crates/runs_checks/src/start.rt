@@ -1,19 +1,10 @@
 // A manual stage that has passed, and plans for the tests.
 use method::{Row, TableNumbers, Tabled};
 use std::test::Fail;
-use verification::{Check, Inspection, Ready};
+use verification::{Inspection, Ready};
 
 pub fn ready() -> Result<Ready, Fail> {
-    let Ok(trial) = Inspection::begin().report(Check::Passed) else {
-        return Err(Fail::new("inspection"));
-    };
-    let Ok(insulation) = trial.report(Check::Passed) else {
-        return Err(Fail::new("trial"));
-    };
-    match insulation.report(Check::Passed) {
-        Ok(ready) => Ok(ready),
-        Err(_) => Err(Fail::new("insulation")),
-    }
+    Ok(Inspection::all_passed()?)
 }
 
 // A plan that accepts and rejects nothing before its cut of 48, and there accepts everything.

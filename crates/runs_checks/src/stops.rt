@@ -29,15 +29,9 @@ fn audited(points: i32, calls: &[Call]) -> Result<Audit, Fail> {
     )?)
 }
 
-// 1 fit, 2 unfit, 0 not ended.
-fn state(outcome: Outcome) -> u8 {
-    match outcome.certificate {
-        Ok(certified) => match certified.verdict {
-            Verdict::Fit => 1,
-            Verdict::Unfit => 2,
-        },
-        Err(_) => 0,
-    }
+// None where it has not ended.
+fn state(outcome: Outcome) -> Option<Verdict> {
+    outcome.certificate.ok().map(|written| written.verdict)
 }
 
 #[test]
@@ -57,7 +51,10 @@ fn a_fit_point_ends_both_fit(rt: HostRuntime) -> Result<(), Fail> {
         ],
     )?;
     assert_eq!(rt; (both.first_unfit.codes, both.all_points.codes), (3, 3));
-    assert_eq!(rt; (state(both.first_unfit), state(both.all_points)), (1, 1));
+    assert_eq!(rt;
+        (state(both.first_unfit), state(both.all_points)),
+        (Some(Verdict::Fit), Some(Verdict::Fit))
+    );
     Ok(())
 }
 
@@ -65,7 +62,10 @@ fn a_fit_point_ends_both_fit(rt: HostRuntime) -> Result<(), Fail> {
 fn an_unfit_point_ends_both_unfit(rt: HostRuntime) -> Result<(), Fail> {
     let both = audited(1, &[OPEN, Call::Late, Call::Code(100), Call::Close(0)])?;
     assert_eq!(rt; (both.first_unfit.codes, both.all_points.codes), (1, 1));
-    assert_eq!(rt; (state(both.first_unfit), state(both.all_points)), (2, 2));
+    assert_eq!(rt;
+        (state(both.first_unfit), state(both.all_points)),
+        (Some(Verdict::Unfit), Some(Verdict::Unfit))
+    );
     Ok(())
 }
 
@@ -84,7 +84,10 @@ fn a_list_that_ends_only_rule_1(rt: HostRuntime) -> Result<(), Fail> {
         ],
     )?;
     assert_eq!(rt; (both.first_unfit.codes, both.all_points.codes), (1, 2));
-    assert_eq!(rt; (state(both.first_unfit), state(both.all_points)), (2, 0));
+    assert_eq!(rt;
+        (state(both.first_unfit), state(both.all_points)),
+        (Some(Verdict::Unfit), None)
+    );
     Ok(())
 }
 
@@ -92,6 +95,9 @@ fn a_list_that_ends_only_rule_1(rt: HostRuntime) -> Result<(), Fail> {
 fn an_empty_list_ends_neither(rt: HostRuntime) -> Result<(), Fail> {
     let both = audited(1, &[])?;
     assert_eq!(rt; (both.first_unfit.codes, both.all_points.codes), (0, 0));
-    assert_eq!(rt; (state(both.first_unfit), state(both.all_points)), (0, 0));
+    assert_eq!(rt;
+        (state(both.first_unfit), state(both.all_points)),
+        (None, None)
+    );
     Ok(())
 }

@@ -7,14 +7,14 @@ use Rattle.std.proofs.lemmas.Bool.Decides.{nat_tests}
 use Rattle.method.specs.Refusals.{between}
 use Rattle.method.specs.declared.verdict.Verdict.{Verdict}
 use Rattle.method.specs.declared.verdict.Verdict.TheVariants.{Fit, Unfit}
-use Rattle.journal.specs.Codes.{first_code, flag_code, quantity_code, verdict_code}
+use Rattle.journal.specs.Codes.{first_code, flag_code, quantity_code, quantity_found, verdict_code}
 use Rattle.journal.specs.Format.{legal}
 use Rattle.journal.specs.Kinds.{sequence, three_step}
 use Rattle.point.specs.Bounds.{Within}
 use Rattle.point.specs.declared.phase.Before.{Before}
 use Rattle.point.specs.declared.phase.Before.TheVariants.{Nothing, SequenceAlone, QuantityAlone, ShortUnfit}
 use Rattle.point.specs.declared.phase.Outcome.{Outcome}
-use Rattle.verification.specs.Records.{first_of, quantity_found, sequence_fields, three_step_fields}
+use Rattle.verification.specs.Records.{first_of, sequence_fields, three_step_fields}
 
 of_ℕ : (low high n : ℕ) → low ≤ n → n ≤ high → between (pos low) (pos high) (pos n) ≡ true
 of_ℕ low high n l h = grind (arith, ints, nat_tests)

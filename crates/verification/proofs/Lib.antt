@@ -1,2 +1,2 @@
 pub mod Legality
-mod Closings
+mod Codings

@@ -21,7 +21,7 @@ use Rattle.point.specs.declared.phase.PlanUsed.TheVariants as used
 use Rattle.point.specs.declared.setting.Setting.{Setting}
 use Rattle.verification.specs.Ordering.{ended}
 use Rattle.verification.specs.Records.{point_record}
-use Rattle.verification.specs.declared.closed.Closed.{Closed}
+use Rattle.verification.specs.declared.written.Written.{Written}
 use Rattle.verification.specs.declared.declared.Declared.{Declared}
 use Rattle.verification.specs.declared.progress.Progress.{Progress}
 
@@ -108,11 +108,11 @@ abbrev pub closing_record : Progress → Outcome → Record
 closing_record p o = point_record (p.closed + 1) o
 
 -- by what writing the record answered
-abbrev pub closed_by : Progress → Outcome → Result ℕ Question → Reply Closed
+abbrev pub closed_by : Progress → Outcome → Result ℕ Question → Reply Written
 closed_by p o (Ok n) = done (closed_with p o) (record { verdict = o.verdict; length = n })
 closed_by p o (Err q) = refused p q
 
-abbrev pub closed_at : Progress → ℕ → ℕ → Phase → Reply Closed
+abbrev pub closed_at : Progress → ℕ → ℕ → Phase → Reply Written
 closed_at p place len Waiting = refused p PointOpen
 closed_at p place len (Settling _) = refused p AskDecided
 closed_at p place len (Observing _) = refused p AskDecided
@@ -138,7 +138,7 @@ abbrev pub belating : Meaning → Meaning → Declared → Progress → Reply (O
 belating m s d p = cond (ended d p) (refused p NotEnded) (late_at m s d p p.phase)
 
 -- into a buffer of that length, at that place
-abbrev pub closing : Declared → Progress → ℕ → ℕ → Reply Closed
+abbrev pub closing : Declared → Progress → ℕ → ℕ → Reply Written
 closing d p place len = cond (ended d p) (refused p NotEnded) (closed_at p place len p.phase)
 
 -- what a closing leaves in the buffer

@@ -1,3 +1,5 @@
+pub mod Orders
+pub mod Standings
 pub mod Ordering
 pub mod Manual
 pub mod Records

@@ -1,11 +1,8 @@
 -- The record of a decided point.
-use Rattle.std.specs.Prelude.{ℕ, pos, Some, None, Option}
-use Rattle.method.specs.declared.verdict.Verdict.{Verdict}
-use Rattle.method.specs.declared.verdict.Verdict.TheVariants.{Fit, Unfit}
+use Rattle.std.specs.Prelude.{ℕ, pos}
+use Rattle.journal.specs.Codes.{quantity_found}
 use Rattle.journal.specs.declared.codes.FirstAttempt.{FirstAttempt}
 use Rattle.journal.specs.declared.codes.FirstAttempt.TheVariants as first
-use Rattle.journal.specs.declared.codes.Quantity.{Quantity}
-use Rattle.journal.specs.declared.codes.Quantity.TheVariants as found
 use Rattle.journal.specs.declared.record.Record.{Record}
 use Rattle.journal.specs.declared.record.Record.TheVariants.{Sequence, ThreeStep}
 use Rattle.journal.specs.declared.sequence.SequenceFields.{SequenceFields}
@@ -22,11 +19,6 @@ first_of Nothing = first.Absent
 first_of (SequenceAlone n) = first.SequenceAlone
 first_of (QuantityAlone n) = first.QuantityAlone
 first_of (ShortUnfit n) = first.ShortUnfit
-
-abbrev pub quantity_found : Option Verdict → Quantity
-quantity_found None = found.NotAsked
-quantity_found (Some Fit) = found.Fit
-quantity_found (Some Unfit) = found.Unfit
 
 -- the numbers of the main attempt that decided, and the dominance found after it
 abbrev pub sequence_fields : ℕ → Before → Outcome → SequenceFields

@@ -3,8 +3,6 @@
 
 mod calls;
 mod certificates;
-mod certified;
-mod closed;
 mod declared;
 mod machine;
 mod notice;
@@ -12,12 +10,12 @@ mod orders;
 mod progress;
 mod records;
 mod stages;
+mod written;
 
-pub use certified::Certified;
-pub use closed::Closed;
 pub use declared::{Declared, StopRule};
 pub use machine::Verification;
 pub use notice::{Check, Notice};
 pub use orders::Orders;
 pub use progress::Progress;
 pub use stages::{Inspection, Insulation, Ready, Trial};
+pub use written::Written;

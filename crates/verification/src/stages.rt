@@ -5,7 +5,7 @@ ghost use Rattle.journal.specs.declared.codes.Signal.TheVariants as signal;
 ghost use Rattle.method.specs.Refusals.{refused_by};
 ghost use Rattle.verification.specs.Calls.{fresh};
 ghost use Rattle.verification.specs.Manual.{notice_of, notice_record};
-ghost use Rattle.std.specs.Prelude.{◌≡◌, true, length};
+ghost use Rattle.std.specs.Prelude.{◌≡◌, true, length, None};
 
 use crate::machine::Verification;
 use crate::notice::{Check, Notice};
@@ -13,7 +13,7 @@ use crate::orders::Orders;
 use crate::progress::Progress;
 use journal::{NoticeFields, Record, Signal, write_record};
 use method::{Plan, Question};
-use point::{Carried, Phase, PlanUsed};
+use point::{Carried, Phase, PlanUsed, Plans};
 
 // Nothing is reported yet.
 #[derive(Drop)]
@@ -31,6 +31,17 @@ pub struct Insulation(());
 #[derive(Drop)]
 pub struct Ready(());
 
+// What follows a signal that passed, or the notice of one that failed.
+fn judged<T: Drop>(check: Check, signal: Signal, next: T) -> Result<T, Notice>
+    ensures { refused_by result ≡ notice_of signal check }
+{
+    match check {
+        Check::Passed => Ok(next),
+        Check::Failed => Err(Notice { failed: signal }),
+    }
+}
+
+// Each stage has a type and a report of its own, so that it is reported once and in its order; what a report comes to is common.
 impl Inspection {
     // The start of the manual stage.
     pub fn begin() -> Inspection {
@@ -41,12 +52,16 @@ impl Inspection {
         ensures { refused_by result ≡ notice_of signal.Inspection check }
     {
         let Inspection(_) = self;
-        match check {
-            Check::Passed => Ok(Trial(())),
-            Check::Failed => Err(Notice {
-                failed: Signal::Inspection,
-            }),
-        }
+        judged(check, Signal::Inspection, Trial(()))
+    }
+
+    // The whole manual stage, passed.
+    pub fn all_passed() -> Result<Ready, Notice>
+        ensures { refused_by result ≡ None }
+    {
+        let trial = Inspection::begin().report(Check::Passed)?;
+        let insulation = trial.report(Check::Passed)?;
+        insulation.report(Check::Passed)
     }
 }
 
@@ -55,12 +70,7 @@ impl Trial {
         ensures { refused_by result ≡ notice_of signal.Trial check }
     {
         let Trial(_) = self;
-        match check {
-            Check::Passed => Ok(Insulation(())),
-            Check::Failed => Err(Notice {
-                failed: Signal::Trial,
-            }),
-        }
+        judged(check, Signal::Trial, Insulation(()))
     }
 }
 
@@ -69,27 +79,18 @@ impl Insulation {
         ensures { refused_by result ≡ notice_of signal.Insulation check }
     {
         let Insulation(_) = self;
-        match check {
-            Check::Passed => Ok(Ready(())),
-            Check::Failed => Err(Notice {
-                failed: Signal::Insulation,
-            }),
-        }
+        judged(check, Signal::Insulation, Ready(()))
     }
 }
 
 impl Ready {
-    // The automatic stage, by accepted orders.
+    // The automatic stage, by accepted orders. A caller has the two plans apart.
     pub fn start<M: Plan, S: Plan>(self, orders: Orders, main: M, short: S) -> Verification<M, S>
-        ensures progress { result.progress ≡ fresh }
-        ensures declared { result.declared ≡ orders.declared }
-        ensures main { result.main ≡ main }
-        ensures short { result.short ≡ short }
+        ensures { result ≡ record { main = main; short = short; declared = orders.declared; progress = fresh } }
     {
         let Ready(_) = self;
         Verification {
-            main,
-            short,
+            plans: Plans { main, short },
             declared: orders.declared,
             progress: Progress {
                 closed: 0,

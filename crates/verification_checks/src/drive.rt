@@ -2,23 +2,15 @@
 use journal::{Placed, Reader, Record};
 use method::{Line, Question, ThreeStep, Truncated, Verdict};
 use std::test::Fail;
-use verification::{Check, Inspection, Orders, Verification};
+use verification::{Inspection, Orders, Verification};
 
 pub type Bench = Verification<Truncated<Line>, ThreeStep>;
 
 // A new verification on normal control.
 pub fn begin(points: i32, control: i32, rule: i32) -> Result<Bench, Fail> {
-    let Ok(trial) = Inspection::begin().report(Check::Passed) else {
-        return Err(Fail::new("inspection"));
-    };
-    let Ok(insulation) = trial.report(Check::Passed) else {
-        return Err(Fail::new("trial"));
-    };
-    let Ok(ready) = insulation.report(Check::Passed) else {
-        return Err(Fail::new("insulation"));
-    };
+    let ready = Inspection::all_passed()?;
     let orders = Orders::new(points, control, rule)?;
-    Ok(ready.start(orders, Truncated::normal(), ThreeStep))
+    Ok(ready.start(orders, Truncated::standard(Line::Normal), ThreeStep))
 }
 
 // The same code so many times, each of them accepted; answers what the last one said.
@@ -39,13 +31,11 @@ pub fn open_settled(bench: &mut Bench, signal: i32) -> Result<(), Fail> {
 
 // The first record of a journal.
 pub fn first_record(journal: &[u8]) -> Result<Record, Fail> {
-    match Reader::new(journal).next() {
-        Ok(Some(placed)) => Ok(placed.record),
-        Ok(None) => Err(Fail::new("no record")),
-        Err(_) => Err(Fail::new("a fault")),
-    }
+    let placed = Reader::new(journal).next()?.ok_or("no record")?;
+    Ok(placed.record)
 }
 
+// The number of the question, or 0: the tables of tests name questions by their numbers.
 pub fn number<T: Drop>(answer: Result<T, Question>) -> u8 {
     match answer {
         Ok(_) => 0,

@@ -84,7 +84,7 @@ fn differing_and_then_fit(rt: HostRuntime) -> Result<(), Fail> {
     let level = bench.level()?;
     assert_eq!(rt;
         (level.tenths, level.observation, level.soonest),
-        (3 - 9, 1, 15)
+        (3 - 9, Some(1), Some(15))
     );
     assert_eq!(rt; feed(&mut bench, 0, 15)?, Some(Verdict::Fit));
     bench.close(&mut journal, 0)?;
@@ -115,17 +115,17 @@ fn levels_follow_the_plan(rt: HostRuntime) -> Result<(), Fail> {
     let level = bench.level()?;
     assert_eq!(rt;
         (level.tenths, level.observation, level.soonest),
-        (1_000, 0, 15)
+        (1_000, None, Some(15))
     );
     feed(&mut bench, 100, 3)?;
     let level = bench.level()?;
     assert_eq!(rt;
         (level.tenths, level.observation, level.soonest),
-        (991, 1, 15)
+        (991, Some(1), Some(15))
     );
     feed(&mut bench, 100, 4)?;
     let level = bench.level()?;
-    assert_eq!(rt; (level.tenths, level.observation), (995, 5));
+    assert_eq!(rt; (level.tenths, level.observation), (995, Some(5)));
     Ok(())
 }
 
@@ -137,10 +137,10 @@ fn settled_by_agreement(rt: HostRuntime) -> Result<(), Fail> {
     bench.open(0, 100, 20, 1)?;
     for code in [10, 11, 12] {
         bench.code(code)?;
-        assert_eq!(rt; bench.level()?.observation, 0);
+        assert_eq!(rt; bench.level()?.observation, None);
     }
     bench.code(12)?;
-    assert_eq!(rt; bench.level()?.observation, 1);
+    assert_eq!(rt; bench.level()?.observation, Some(1));
     feed(&mut bench, 0, 15)?;
     bench.close(&mut journal, 0)?;
     assert_eq!(rt;
@@ -182,9 +182,9 @@ fn settled_by_the_200th_code(rt: HostRuntime) -> Result<(), Fail> {
         bench.code(9)?;
     }
     bench.code(0)?;
-    assert_eq!(rt; bench.level()?.observation, 0);
+    assert_eq!(rt; bench.level()?.observation, None);
     bench.code(9)?;
-    assert_eq!(rt; bench.level()?.observation, 1);
+    assert_eq!(rt; bench.level()?.observation, Some(1));
     feed(&mut bench, 0, 15)?;
     bench.close(&mut journal, 0)?;
     assert_eq!(rt;

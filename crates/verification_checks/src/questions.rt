@@ -116,12 +116,8 @@ fn orders_ask_in_order(rt: HostRuntime) {
 #[test]
 fn a_failed_signal_ends_in_its_notice(rt: HostRuntime) -> Result<(), Fail> {
     let mut journal = [0xAAu8; 2];
-    let Ok(trial) = Inspection::begin().report(Check::Passed) else {
-        return Err(Fail::new("inspection"));
-    };
-    let Err(notice) = trial.report(Check::Failed) else {
-        return Err(Fail::new("trial"));
-    };
+    let trial = Inspection::begin().report(Check::Passed)?;
+    let notice = trial.report(Check::Failed).err().ok_or("trial")?;
     assert_eq!(rt; notice.failed, Signal::Trial);
     assert_eq!(rt; number(notice.write(&mut journal, 2)), 19);
     assert_eq!(rt; notice.write(&mut journal, 1)?, 1);

@@ -38,7 +38,7 @@ fn first_point(rt: &impl Abort, bench: &mut Bench) -> Result<(), Fail> {
 // Codes of 0 have the errors 5, 0 and -5 on the short plan. D is 1,000,000 - 8,000 x 20 = 840,000.
 fn short_point(rt: &impl Abort, bench: &mut Bench) -> Result<(), Fail> {
     open_settled(bench, 0)?;
-    assert_eq!(rt; bench.level()?.soonest, 3);
+    assert_eq!(rt; bench.level()?.soonest, Some(3));
     assert_eq!(rt; feed(bench, 0, 2)?, None);
     assert_eq!(rt; feed(bench, 0, 1)?, Some(Verdict::Fit));
     let record = Record::ThreeStep(ThreeStepFields {
@@ -83,7 +83,7 @@ fn main_short_short_unfit_and_main_again(rt: HostRuntime) -> Result<(), Fail> {
     short_point(&rt, &mut bench)?;
     short_unfit_point(&rt, &mut bench)?;
     open_settled(&mut bench, 0)?;
-    assert_eq!(rt; bench.level()?.soonest, 15);
+    assert_eq!(rt; bench.level()?.soonest, Some(15));
     assert_eq!(rt; feed(&mut bench, 0, 15)?, Some(Verdict::Fit));
     Ok(())
 }
@@ -96,6 +96,6 @@ fn dominance_leads_to_the_short_plan_whatever_the_verdict(rt: HostRuntime) -> Re
     assert_eq!(rt; feed(&mut bench, 100, 3)?, Some(Verdict::Unfit));
     closed(&mut bench)?;
     open_settled(&mut bench, 0)?;
-    assert_eq!(rt; bench.level()?.soonest, 3);
+    assert_eq!(rt; bench.level()?.soonest, Some(3));
     Ok(())
 }

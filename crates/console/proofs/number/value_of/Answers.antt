@@ -1,11 +1,10 @@
-use Rattle.std.proofs.Common.{arith, rules}
-use Rattle.std.proofs.lemmas.List.{take_all}
-use Rattle.console.proofs.DigitSteps.{value_more}
+use Rattle.std.proofs.Common.{◌≡◌, fold, sym, ◌∙◌, arith, rules}
+use Rattle.console.proofs.DigitSteps.{saturated_fold, saturated_step}
+use Rattle.console.specs.Numbers.{saturated_value}
 use Rattle.console.proofs.number.value_of.Goals as goal
-
-pub loop-b-preserved : goal.loop-b-preserved
-loop-b-preserved c = let e = value_more c.args.word.now c.loop-b.b-index (omega arith) in (cc, search rules)
 
 pub returns : goal.returns
 returns c =
-    let e = take_all c.loop-b.b-index c.args.word.now (omega arith) in record { is = cc; small = search rules }
+    let e : c.fold.result ≡ fold saturated_step 0 c.args.word.now = search rules in
+    let is : c.fold.result ≡ saturated_value c.args.word.now = e ∙ sym (saturated_fold c.args.word.now 0) in
+    record { is = is; small = omega arith }

@@ -1,21 +1,17 @@
-use Rattle.std.proofs.Common.{rules}
-use Rattle.control.proofs.Foresight.{Least, foretells, soonest_is}
+use Rattle.std.proofs.Common.{◌≡◌, ◌+◌, ◌-◌, refl, sym, ◌∙◌, subst, arith, rules, tests}
+use Rattle.std.proofs.lemmas.Iterator.{YieldsList-from_range}
+use Rattle.std.proofs.lemmas.Iterator.Adapters.{option_map_id}
+use Rattle.std.proofs.lemmas.Iterator.Search.{find_from_yields_List}
+use Rattle.control.specs.Prospects.{Foretells, could_end, first_end, soonest_fit}
+use Rattle.control.proofs.Foresight.{foretells, soonest_from}
 use Rattle.control.proofs.soonest.soonest_fit.Goals as goal
-
-pub returns-then-n-cut : goal.returns-then-n-cut
-returns-then-n-cut g c =
-    let m = g.P.Plan.meaning c.args.plan.now in
-    let least : Least m c.args.n c.args.x 0 = search rules in
-    record { is = soonest_is m c.args.n c.args.x 0 least; foretells = foretells m (g.met.P.Plan.ranged c.args.plan.now) c.args.n c.args.x 0 least }
-
-pub returns-then-could_end_fit : goal.returns-then-could_end_fit
-returns-then-could_end_fit g c =
-    let m = g.P.Plan.meaning c.args.plan.now in
-    let least : Least m c.args.n c.args.x c.loop-i.i = search rules in
-    record { is = soonest_is m c.args.n c.args.x c.loop-i.i least; foretells = foretells m (g.met.P.Plan.ranged c.args.plan.now) c.args.n c.args.x c.loop-i.i least }
 
 pub returns : goal.returns
 returns g c =
     let m = g.P.Plan.meaning c.args.plan.now in
-    let least : Least m c.args.n c.args.x 0 = search rules in
-    record { is = soonest_is m c.args.n c.args.x 0 least; foretells = foretells m (g.met.P.Plan.ranged c.args.plan.now) c.args.n c.args.x 0 least }
+    let r = g.met.P.Plan.ranged c.args.plan.now in
+    let a = c.saturating_add.result in
+    let found : c.find.result ≡ first_end m c.args.x a (m.cut + 1 - a) =
+    sym (option_map_id c.find.result) ∙ find_from_yields_List (could_end m c.args.x) _ _ c.find.result c.find.ensures.ran (YieldsList-from_range a (m.cut + 1) _ (search rules) refl) (λ x b q k. search (rules, tests)) in
+    let e : c.find.result ≡ soonest_fit m c.args.n c.args.x = found ∙ soonest_from m c.args.n c.args.x a (λ lt. omega (arith, r.cut_high)) (λ ge. omega (arith, r.cut_high)) in
+    record { is = e; foretells = subst (Foretells m c.args.n c.args.x) (sym e) (foretells m r c.args.n c.args.x) }

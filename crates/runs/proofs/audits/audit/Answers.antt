@@ -1,6 +1,5 @@
-use Rattle.std.proofs.Common.{◌≡◌, length, ℤ, pos, Some, Option, sym, refl, ap, ◌∙◌, subst, w32, to_z, of_z, rules}
+use Rattle.std.proofs.Common.{length, ℤ, pos, sym, refl, ap, ◌∙◌, subst, w32, to_z, of_z}
 use Rattle.std.proofs.lemmas.Int.{to_z-of_z}
-use Rattle.method.specs.declared.question.Question.{Question}
 use Rattle.runs.proofs.Lawful.{laws}
 use Rattle.runs.proofs.Sparings.{both, journal_alike, outcome_alike, sparing}
 use Rattle.runs.specs.Audits.{Sparing}
@@ -8,16 +7,8 @@ use Rattle.runs.specs.declared.outcome.Audit.{Audit}
 use Rattle.verification.specs.Ordering.{as_declared, orders_refusal}
 use Rattle.runs.proofs.audits.audit.Goals as goal
 
-pub returns-in-Err : goal.returns-in-Err
-returns-in-Err g c =
-    let told : ◌≡◌ {A = Option Question} (Some c.in-Err.question) (orders_refusal c.args.points c.args.control (pos 1)) = search rules in
-    record {
-      refuses = told;
-      makes = tt;
-      bytes = refl;
-      sparing = tt;
-      laws = laws (g.M.Plan.meaning c.args.main) (g.S.Plan.meaning c.args.short) (g.met.M.Plan.ranged c.args.main) (g.met.S.Plan.ranged c.args.short);
-    }
+pub returns-in_err-stopping-clause-laws : goal.returns-in_err-stopping-clause-laws
+returns-in_err-stopping-clause-laws g c = laws (g.M.Plan.meaning c.args.main) (g.S.Plan.meaning c.args.short) (g.met.M.Plan.ranged c.args.main) (g.met.S.Plan.ranged c.args.short)
 
 pub returns : goal.returns
 returns g c =
@@ -30,9 +21,9 @@ returns g c =
     let two = c.run-all_points.ensures in
     let points = to_z-of_z w32 c.args.points c.ranges.points in
     let control = to_z-of_z w32 c.args.control c.ranges.control in
-    let first = c.in-Ok.ensures.makes.0 ∙ ap (λ (z : ℤ). as_declared z (to_z w32 (of_z w32 c.args.control)) (pos 1)) points ∙ ap (λ (z : ℤ). as_declared c.args.points z (pos 1)) control in
-    let second = c.in-Ok.ensures.makes.1 ∙ ap (λ (z : ℤ). as_declared z (to_z w32 (of_z w32 c.args.control)) (pos 2)) points ∙ ap (λ (z : ℤ). as_declared c.args.points z (pos 2)) control in
-    let asked = c.in-Ok.ensures.refuses ∙ ap (λ (z : ℤ). orders_refusal z (to_z w32 (of_z w32 c.args.control)) (pos 1)) points ∙ ap (λ (z : ℤ). orders_refusal c.args.points z (pos 1)) control in
+    let first = c.in_ok-stopping.ensures.makes.0 ∙ ap (λ (z : ℤ). as_declared z (to_z w32 (of_z w32 c.args.control)) (pos 1)) points ∙ ap (λ (z : ℤ). as_declared c.args.points z (pos 1)) control in
+    let second = c.in_ok-stopping.ensures.makes.1 ∙ ap (λ (z : ℤ). as_declared z (to_z w32 (of_z w32 c.args.control)) (pos 2)) points ∙ ap (λ (z : ℤ). as_declared c.args.points z (pos 2)) control in
+    let asked = c.in_ok-stopping.ensures.refuses ∙ ap (λ (z : ℤ). orders_refusal z (to_z w32 (of_z w32 c.args.control)) (pos 1)) points ∙ ap (λ (z : ℤ). orders_refusal c.args.points z (pos 1)) control in
     let is = both (one.outcome ∙ outcome_alike m s place cs first refl) (two.outcome ∙ outcome_alike m s place cs second c.run-first_unfit.auto.journal) in
     record {
       refuses = asked;

@@ -10,12 +10,6 @@ returns-in_ok-truncate-in-CutLine c = record {
   makes = cut_of _ _ _ _ _ _ _ (ap chosen_meaning c.in-CutLine.is) (to_z-of_z w32 c.args.cut c.ranges.cut) (to_z-of_z w32 c.args.cut_number c.ranges.cut_number) c.in_ok-truncate-in-CutLine.ensures.alike;
 }
 
-pub returns-in_ok-truncate-in-CutShort : goal.returns-in_ok-truncate-in-CutShort
-returns-in_ok-truncate-in-CutShort c = record {
-  refuses = search rules;
-  makes = cut_of _ _ _ _ _ _ _ (ap chosen_meaning c.in-CutShort.is) (to_z-of_z w32 c.args.cut c.ranges.cut) (to_z-of_z w32 c.args.cut_number c.ranges.cut_number) c.in_ok-truncate-in-CutShort.ensures.alike;
-}
-
 pub returns-in_ok-truncate-in-CutTable : goal.returns-in_ok-truncate-in-CutTable
 returns-in_ok-truncate-in-CutTable c = record {
   refuses = search rules;

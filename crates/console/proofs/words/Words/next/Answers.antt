@@ -9,7 +9,7 @@ pub returns-then-length-eq0 : goal.returns-then-length-eq0
 returns-then-length-eq0 c = record {
   word = grind (arith, nat_tests);
   rest = cc;
-  words = none blank c.args.self.now.rest.now _ _ _ c.skip_blanks-line.ensures.is c.run_of-length.ensures.is c.if-length-eq0.true c.split_at.ensures.back;
+  words = none blank c.args.self.now.rest.now _ _ _ c.skip_blanks-line.ensures.is c.word_len-length.ensures.is c.if-length-eq0.true c.split_at.ensures.back;
   shorter = λ e. absurd (false≢true e);
 }
 
@@ -17,6 +17,6 @@ pub returns-else-length-eq0 : goal.returns-else-length-eq0
 returns-else-length-eq0 c = record {
   word = grind (arith, nat_tests);
   rest = cc;
-  words = some blank c.args.self.now.rest.now _ _ _ _ c.skip_blanks-line.ensures.is c.run_of-length.ensures.is (λ e. omega arith) c.split_at.ensures.front c.split_at.ensures.back;
+  words = some blank c.args.self.now.rest.now _ _ _ _ c.skip_blanks-line.ensures.is c.word_len-length.ensures.is (λ e. omega arith) c.split_at.ensures.front c.split_at.ensures.back;
   shorter = λ e. omega arith;
 }

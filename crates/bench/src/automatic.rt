@@ -1,0 +1,123 @@
+// The automatic stage: a verification that runs, what it was ordered with, and the calls made since.
+use crate::denied::Denied;
+use commands::{Reply, Run};
+use console::ChosenPlan;
+use method::{Question, Verdict};
+use runs::{Call, Outcome, audit};
+use std::alloc::Global;
+use verification::{Inspection, Orders, Ready, Verification, Written};
+
+// What a verification is ordered with, but for its stop rule. Numbers as they are typed: whether a control of that number
+// is known is a question.
+#[derive(Clone, Copy)]
+pub struct Ordered {
+    pub points: i32,
+    pub control: i32,
+    pub main: ChosenPlan,
+    pub short: ChosenPlan,
+}
+
+#[derive(Drop)]
+pub struct Automatic {
+    running: Verification<ChosenPlan, ChosenPlan>,
+    ordered: Ordered,
+    // none where there was no memory for one of them
+    calls: Option<Vec<Call>>,
+}
+
+fn decision(verdict: Option<Verdict>) -> Reply {
+    verdict.map_or(Reply::Undecided, Reply::Decided)
+}
+
+// What a run came to.
+fn come_to(outcome: Outcome) -> Run {
+    Run {
+        codes: u32::try_from(outcome.codes).unwrap_or(u32::MAX),
+        verdict: outcome.certificate.ok().map(|written| written.verdict),
+    }
+}
+
+impl Automatic {
+    pub fn start(heap: Global, ready: Ready, orders: Orders, ordered: Ordered) -> Automatic {
+        Automatic {
+            running: ready.start(orders, ordered.main, ordered.short),
+            ordered,
+            calls: Some(Vec::new(heap)),
+        }
+    }
+
+    // Makes a call. It is kept for an audit.
+    pub fn call(&mut self, call: Call, journal: &mut [u8]) -> Result<Reply, Denied> {
+        if let Some(calls) = &mut self.calls {
+            // without memory for the list the call is made all the same
+            if calls.push(call).is_err() {
+                self.calls = None;
+            }
+        }
+        self.answer(call, journal)
+    }
+
+    fn answer(&mut self, call: Call, journal: &mut [u8]) -> Result<Reply, Denied> {
+        let running = &mut self.running;
+        match call {
+            Call::Open {
+                signal,
+                meter,
+                reference,
+                agreement,
+            } => {
+                running.open(signal, meter, reference, agreement)?;
+                Ok(Reply::Done)
+            }
+            Call::Level => Ok(Reply::Level(running.level()?)),
+            Call::Code(code) => Ok(decision(running.code(code)?)),
+            Call::Late => Ok(decision(running.late()?)),
+            Call::Close(place) => {
+                let written = running.close(journal, place)?;
+                Ok(Reply::Closed(written.verdict, written.length))
+            }
+        }
+    }
+
+    // The certificate spends the verification; a refused one gives it back.
+    pub fn certify(
+        self,
+        journal: &mut [u8],
+        place: usize,
+    ) -> Result<Written, (Question, Automatic)> {
+        let Automatic {
+            running,
+            ordered,
+            calls,
+        } = self;
+        running.certify(journal, place).map_err(|(question, running)| {
+            (
+                question,
+                Automatic {
+                    running,
+                    ordered,
+                    calls,
+                },
+            )
+        })
+    }
+
+    // What the calls come to under each stop rule, with a scratch buffer of a length.
+    pub fn audit(&self, heap: Global, length: usize) -> Result<Reply, Denied> {
+        let calls = self.calls.as_ref().ok_or(Denied::Misuse)?;
+        let mut scratch = vec![in heap; 0u8; length]?;
+        let ordered = self.ordered;
+        let audited = audit(
+            Inspection::all_passed().unwrap(),
+            Inspection::all_passed().unwrap(),
+            ordered.points,
+            ordered.control,
+            ordered.main,
+            ordered.short,
+            calls.as_slice(),
+            scratch.as_mut_slice(),
+            0,
+        )?;
+        Ok(Reply::Audited(come_to(audited.first_unfit), come_to(audited.all_points)))
+    }
+}
