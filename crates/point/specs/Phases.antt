@@ -1,5 +1,7 @@
 -- A point, code by code.
 use Rattle.std.specs.Prelude.{◌+◌, Bool, ℤ, Some, None, Option}
+use Rattle.std.specs.declared.ops.ControlFlow.{ControlFlow}
+use Rattle.std.specs.declared.ops.ControlFlow.TheVariants.{Continue, Break}
 use Rattle.method.specs.Meaning.{Meaning}
 use Rattle.method.specs.declared.verdict.Verdict.{Verdict}
 use Rattle.control.specs.Settlings.{no_codes, settled_by, with_code}
@@ -37,6 +39,11 @@ goes_on m k dominance a (Some v) = attempt_end m k dominance a.course a v
 
 abbrev pub observe_on : Meaning → Meaning → Control → Bool → Trial → ℤ → Phase
 observe_on p m k dominance a c = goes_on m k dominance (noted p a c) (noted_verdict p a c)
+
+-- what an observation led to: the attempt itself where it goes on, else the phase behind its end
+abbrev pub led_to : ControlFlow Phase Trial → Phase
+led_to (Continue a) = Observing a
+led_to (Break f) = f
 
 -- a legal code at a point; where none is open, or it is decided, nothing happens
 abbrev pub coded : Meaning → Meaning → Control → Carried → Phase → ℤ → Phase

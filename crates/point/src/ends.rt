@@ -2,7 +2,7 @@
 ghost use Rattle.std.specs.Prelude.{◌≡◌, ◌+◌, ◌≤◌};
 ghost use Rattle.point.specs.Bounds.{Takes, made_before, taken_by};
 ghost use Rattle.point.specs.Ends.{another, attempt_end, decided, first_full, leaves, main_end, next_after, second_full, short_end};
-ghost use Rattle.point.specs.Phases.{observe_on};
+ghost use Rattle.point.specs.Phases.{led_to, observe_on};
 ghost use Rattle.point.specs.Trials.{plan_of};
 
 use crate::code::Code;
@@ -124,20 +124,29 @@ fn observe_on<P: Plan, M: Plan>(
     dominance: bool,
     ongoing: Ongoing,
     code: Code,
-) -> Phase
-    ensures { result ≡ observe_on (P.Plan.meaning plan.now) (M.Plan.meaning main.now) control dominance ongoing code }
+) -> ControlFlow<Phase, Ongoing>
+    ensures { led_to result ≡ observe_on (P.Plan.meaning plan.now) (M.Plan.meaning main.now) control dominance ongoing code }
 {
+    // Not `map_break`, which keeps what goes on in memory: with it each code took twice the time.
     match note(plan, ongoing, code) {
-        ControlFlow::Continue(after) => Phase::Observing(after),
-        ControlFlow::Break((after, v)) => conclude(main, control, dominance, after, v),
+        ControlFlow::Continue(after) => ControlFlow::Continue(after),
+        ControlFlow::Break((after, v)) => {
+            ControlFlow::Break(conclude(main, control, dominance, after, v))
+        }
     }
 }
 
 impl<M: Plan, S: Plan> Plans<M, S> {
-    // One observation more, and what it means for the point.
-    pub fn observe(&self, control: Control, dominance: bool, ongoing: Ongoing, code: Code) -> Phase
-        ensures is { result ≡ observe_on (plan_of (M.Plan.meaning self.now.main) (S.Plan.meaning self.now.short) ongoing.course) (M.Plan.meaning self.now.main) control dominance ongoing code }
-        ensures takes { Takes (taken_by ongoing + 1) result }
+    // One observation more: the attempt goes on, or what its end means for the point.
+    pub fn observe(
+        &self,
+        control: Control,
+        dominance: bool,
+        ongoing: Ongoing,
+        code: Code,
+    ) -> ControlFlow<Phase, Ongoing>
+        ensures is { led_to result ≡ observe_on (plan_of (M.Plan.meaning self.now.main) (S.Plan.meaning self.now.short) ongoing.course) (M.Plan.meaning self.now.main) control dominance ongoing code }
+        ensures takes { Takes (taken_by ongoing + 1) (led_to result) }
     {
         let main = &self.main;
         match ongoing.trial.course {

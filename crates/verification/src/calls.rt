@@ -13,6 +13,7 @@ use crate::written::Written;
 use journal::write_record;
 use method::{Plan, Question, Verdict};
 use point::{Code, Level, Phase, Setting};
+use std::ops::ControlFlow;
 
 impl<M: Plan, S: Plan> Verification<M, S> {
     // Whether every declared point is closed, or an unfit one under the rule that stops there.
@@ -88,8 +89,10 @@ impl<M: Plan, S: Plan> Verification<M, S> {
             }
             Phase::Observing(a) => {
                 let code = Code::new(code)?;
-                let next = self.plans.observe(control, carried.dominance, a, code);
-                Ok(self.counted(next))
+                match self.plans.observe(control, carried.dominance, a, code) {
+                    ControlFlow::Continue(after) => Ok(self.counted(Phase::Observing(after))),
+                    ControlFlow::Break(next) => Ok(self.counted(next)),
+                }
             }
         }
     }
