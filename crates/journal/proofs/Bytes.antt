@@ -5,7 +5,7 @@ use Rattle.std.specs.Int.{w128, bytes_high_first, from_be_bytes, to_be_bytes}
 use native.Mathlib.Nat.{div-div-eq-div-mul}
 use lib.Arith.{digits_lt}
 use Rattle.std.proofs.lemmas.Nat.{pow-add, shr_below, shr-shr, div-mul-add}
-use Rattle.std.proofs.lemmas.List.{take_rest, take_more, get_or_append_left, get_or_at, get_or-append-add, get_or-drop, get_or-replicate}
+use Rattle.std.proofs.lemmas.List.{length-take-le, take-append-drop, take_rest, take_more, get_or_append_left, get_or_at, get_or-append-add, get_or-take, get_or-drop, get_or-replicate}
 use Rattle.journal.specs.Bits.{bytes_of, word_of}
 
 powers : (k : ℕ) → 256 ^ k ≡ 2 ^ (8 * k)
@@ -62,6 +62,9 @@ pub word_of_append : (k : ℕ) (xs ys : List ℕ) → k ≤ length xs → word_o
 word_of_append zero xs ys le = refl
 word_of_append (suc k) xs ys le = rw (word_of_append k xs ys (omega arith), get_or_append_left xs ys 0 k (omega arith)) refl
 
+pub word_of_take : (k : ℕ) (bs : List ℕ) → k ≤ length bs → word_of k (take k bs) ≡ word_of k bs
+word_of_take k bs le = sym (word_of_append k (take k bs) (drop k bs) (omega (arith, length-take-le k bs le))) ∙ ap (word_of k) (take-append-drop k bs)
+
 padded : (bs zs : List ℕ) (j : ℕ) → ((i : ℕ) → i < j → get_or zs i 0 ≡ 0) → word_of (length bs + j) (bs ++ zs) ≡ word_of (length bs) bs * 2 ^ (8 * j)
 padded bs zs zero none = ap (λ k. word_of k (bs ++ zs)) (add-zero (length bs)) ∙ word_of_append (length bs) bs zs (omega arith) ∙ (let e : word_of (length bs) bs ≡ word_of (length bs) bs * 1 = omega arith in e)
 padded bs zs (suc j) none =
@@ -81,6 +84,30 @@ headed_bytes bs le =
     let none : (i : ℕ) → i < j → get_or {A = ℕ} (drop k (replicate 16 0)) i 0 ≡ 0 = λ i lt. get_or-drop k (replicate 16 0) i 0 ∙ get_or-replicate {A = ℕ} 16 (k + i) 0 0 (omega arith) in
     let whole : from_be_bytes w128 all ≡ word_of k bs * 2 ^ (8 * j) = big_endian_is all ∙ ap (λ i. word_of i all) sixteen ∙ padded bs (drop k (replicate 16 0)) j none in
     ap (λ x. x * 16) whole ∙ mul_assoc (word_of k bs) (2 ^ (8 * j)) 16 ∙ ap (λ x. word_of k bs * x) (sym (pow-add 2 (8 * j) 4) ∙ ap (λ i. 2 ^ i) (let e : 8 * j + 4 ≡ 132 - 8 * k = omega arith in e))
+
+-- bytes with zeros in front of them
+zeros : (k : ℕ) (zs : List ℕ) → ((i : ℕ) → i < k → get_or zs i 0 ≡ 0) → word_of k zs ≡ 0
+zeros zero zs none = refl
+zeros (suc k) zs none = omega (arith, zeros k zs (λ i lt. none i (omega arith)), none k (omega arith))
+
+behind_zeros : (zs bs : List ℕ) (k : ℕ) → ((i : ℕ) → i < length zs → get_or zs i 0 ≡ 0) → word_of (length zs + k) (zs ++ bs) ≡ word_of k bs
+behind_zeros zs bs zero none = ap (λ i. word_of i (zs ++ bs)) (add-zero (length zs)) ∙ word_of_append (length zs) zs bs (omega arith) ∙ zeros (length zs) zs none
+behind_zeros zs bs (suc k) none =
+    let e : length zs + suc k ≡ suc (length zs + k) = omega arith in
+    let here = behind_zeros zs bs k none in
+    ap (λ i. word_of i (zs ++ bs)) e ∙ ap (λ x. word_of (length zs + k) (zs ++ bs) * 256 + x) (get_or-append-add zs bs k 0) ∙ ap (λ x. x * 256 + get_or bs k 0) here
+
+-- the number of bytes that are put at the end of sixteen
+pub tailed_bytes : (bs ys : List ℕ) → length bs ≤ 16 → from_be_bytes w128 (take (16 - length bs) (replicate 16 0) ++ (bs ++ ys)) ≡ word_of (length bs) bs
+tailed_bytes bs ys le = tail (take (16 - length bs) (replicate {A = ℕ} 16 0)) len (λ i lt. get_or-take (16 - length bs) (replicate 16 0) i 0 (omega (arith, len)) ∙ get_or-replicate {A = ℕ} 16 i 0 0 (omega (arith, len)))
+  where
+    len : length (take (16 - length bs) (replicate {A = ℕ} 16 0)) ≡ 16 - length bs
+    len = length-take-le (16 - length bs) (replicate {A = ℕ} 16 0) (omega arith)
+
+    tail : (zs : List ℕ) → length zs ≡ 16 - length bs → ((i : ℕ) → i < length zs → get_or zs i 0 ≡ 0) → from_be_bytes w128 (zs ++ (bs ++ ys)) ≡ word_of (length bs) bs
+    tail zs is none =
+        let sixteen : 16 ≡ length zs + length bs = omega (arith, is) in
+        big_endian_is (zs ++ (bs ++ ys)) ∙ ap (λ i. word_of i (zs ++ (bs ++ ys))) sixteen ∙ behind_zeros zs (bs ++ ys) (length bs) none ∙ word_of_append (length bs) bs ys (omega arith)
 
 -- the number that the bytes of a number are
 pub word_of_bytes_of : (k n : ℕ) → n < 2 ^ (8 * k) → word_of k (bytes_of k n) ≡ n

@@ -18,7 +18,7 @@ use Rattle.journal.specs.Fields.{all_in_range, kind_number, coded}
 use Rattle.journal.specs.Format.{Format, Sound, legal, row, all_numbers, fill, word, encoded}
 use Rattle.journal.specs.Writing.{answered, laid}
 use Rattle.journal.specs.Reading.{fault, kind_of, ranged, meant, opened, decoded, Bytes, ReadsBack, ReadsOnly}
-use Rattle.journal.proofs.Bytes.{bytes_of_word_of, word_of_bytes_of, word_of_append, word_of_lt, length_bytes_of, getD_bytes_of, word_of_top}
+use Rattle.journal.proofs.Bytes.{bytes_of_word_of, word_of_bytes_of, word_of_append, word_of_take, word_of_lt, length_bytes_of, getD_bytes_of, word_of_top}
 use Rattle.journal.proofs.Places.{lifted, by_places, eqb_shifted}
 use Rattle.journal.specs.Rows.{packed_lt, put_all_is, code_first, rest_behind, row_of, length_take_all, taken, only, flagged}
 
@@ -35,8 +35,7 @@ granted false b n k h = let z : ◌≡◌ {A = ℕ} 0 1 = cc in absurd (omega ar
 pub headed_is : {F : Type 0} (m : Format F) (bs front : List ℕ) → m.size ≤ length bs → front ≡ take m.size bs → ◌≡◌ {A = Unpacking} (record { word = (word_of (length front) front * 2 ^ (132 - 8 * length front)) % 2 ^ 128; in_range = true }) (headed m bs)
 headed_is m bs front le e =
     let len : length front ≡ m.size = ap length e ∙ length-take-le m.size bs le in
-    let split = take-append-drop m.size bs in
-    let same : word_of m.size front ≡ word_of m.size bs = sym (word_of_append m.size front (drop m.size bs) (omega (arith, len))) ∙ ap (λ x. word_of m.size (x ++ drop m.size bs)) e ∙ ap (word_of m.size) split in
+    let same : word_of m.size front ≡ word_of m.size bs = ap (word_of m.size) e ∙ word_of_take m.size bs le in
     rw len (rw same refl)
 
 module _ {F : Type 0} (m : Format F) (s : Sound m) where

@@ -1,5 +1,6 @@
 // What a kind of record is: its number, its length, its fields, and how they lie in its bits.
-ghost use Rattle.std.specs.Prelude.{◌≡◌, ℕ};
+ghost use Rattle.std.specs.Prelude.{◌≡◌, ◌-◌, ◌<◌, ◌≤◌, ℕ, length, take, drop, MatchOption};
+ghost use Rattle.journal.specs.Bits.{word_of};
 ghost use Rattle.journal.specs.Cursor.{behind_all, put_all, take_all};
 ghost use Rattle.journal.specs.Format.{Format, Sound};
 
@@ -19,6 +20,17 @@ pub trait RecordKind {
     ghost LENGTH: { ℕ };
 
     ghost format: { Format Self.Fields };
+
+    // The first bytes as one number, and the bytes behind them; `None` where they are too few. Final: how many they are is all
+    // that differs from kind to kind.
+    final fn apart(bytes: &[u8]) -> Option<(u128, &[u8])>
+        ensures { MatchOption result (length bytes.now < format.size) (λ p. (format.size ≤ length bytes.now) × (p.0 ≡ word_of format.size bytes.now) × (p.1.now ≡ take (length bytes.now - format.size) (drop format.size bytes.now))) }
+    {
+        let (record, rest) = bytes.split_at_checked(Self::LENGTH)?;
+        let mut word = [0; 16];
+        word[16 - record.len()..].copy_from_slice(record);
+        Some((u128::from_be_bytes(word), rest))
+    }
 
     // Whether the fields agree with one another; each one's own range is asked as it is packed or unpacked.
     fn related(fields: &Self::Fields) -> bool

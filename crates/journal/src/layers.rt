@@ -1,5 +1,5 @@
 // Reading a record of any kind, by layers.
-ghost use Rattle.std.specs.Prelude.{◌≡◌, ◌+◌, true, false, ◌&&◌, length, Ok, Err, MatchResult, ◌==◌, nat_le};
+ghost use Rattle.std.specs.Prelude.{◌≡◌, ◌+◌, true, false, ◌&&◌, length, drop, Ok, Err, MatchResult, ◌==◌, nat_le};
 ghost use Rattle.journal.specs.Cursor.{behind_all, headed, take_all};
 ghost use Rattle.journal.specs.Reading.{decoded, fault};
 ghost use Rattle.method.specs.declared.question.Question.TheVariants.{AllBytesThere, FieldsInRange, FillZero};
@@ -11,7 +11,7 @@ use method::Question;
 
 // The kind layer, once the kind is known: are all the record's bytes there? Answers the bits behind the kind, and the bytes behind the record.
 fn whole<K: RecordKind>(bytes: &[u8], place: Place) -> Result<(Unpacking, &[u8]), Fault>
-    ensures { MatchResult result (λ p. (nat_le K.RecordKind.format.size (length bytes.now) ≡ true) × (p.0 ≡ headed K.RecordKind.format bytes.now) × (length p.1.now + K.RecordKind.format.size ≡ length bytes.now)) (λ e. (nat_le K.RecordKind.format.size (length bytes.now) ≡ false) × (e ≡ fault AllBytesThere Layer.Kind place)) }
+    ensures { MatchResult result (λ p. (nat_le K.RecordKind.format.size (length bytes.now) ≡ true) × (p.0 ≡ headed K.RecordKind.format bytes.now) × (p.1.now ≡ drop K.RecordKind.format.size bytes.now) × (length p.1.now + K.RecordKind.format.size ≡ length bytes.now)) (λ e. (nat_le K.RecordKind.format.size (length bytes.now) ≡ false) × (e ≡ fault AllBytesThere Layer.Kind place)) }
 {
     let (record, rest) = bytes
         .split_at_checked(K::LENGTH)

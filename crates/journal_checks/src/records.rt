@@ -1,7 +1,8 @@
 // Records of each kind: their bytes, and what is refused.
 use journal::{
-    CertificateFields, Fault, FirstAttempt, Layer, NoticeFields, Place, Placed, Quantity, Reader,
-    Record, SequenceFields, Signal, ThreeStepFields, write_record,
+    Certificate, CertificateFields, Fault, FirstAttempt, Layer, Notice, NoticeFields, Place,
+    Placed, Quantity, Reader, Record, RecordKind, Sequence, SequenceFields, Signal,
+    ThreeStepFields, write_record,
 };
 use method::{Question, Verdict};
 use std::process::Abort;
@@ -203,6 +204,29 @@ fn certificates(rt: HostRuntime) {
         certificate(999, 999, Verdict::Unfit),
         &[0x3f, 0x9f, 0xe7, 0xf9, 0xc0, 0x90, 0x63, 0x00],
     );
+}
+
+// A notice, the greatest certificate and the greatest sequence, each with bytes behind it or one too few.
+#[test]
+fn apart(rt: HostRuntime) {
+    let behind: &[u8] = &[7, 9];
+    let none: &[u8] = &[];
+    assert_eq!(rt; Notice::apart(&[0x48, 7, 9]), Some((0x48, behind)));
+    assert_eq!(rt; Notice::apart(&[0x48]), Some((0x48, none)));
+    assert_eq!(rt; Notice::apart(none), None);
+    assert_eq!(rt;
+        Certificate::apart(&[0x3f, 0x9f, 0xe7, 0xf9, 0xc0, 0x90, 0x63, 0x00, 7, 9]),
+        Some((0x3f9f_e7f9_c090_6300, behind))
+    );
+    assert_eq!(rt; Certificate::apart(&[0x3f; 7]), None);
+    assert_eq!(rt;
+        Sequence::apart(&[
+            0x1f, 0x9d, 0xe1, 0x86, 0xf9, 0x13, 0x12, 0xd0, 0x0b, 0xb8, 0x05, 0xb8, 0xd8, 0, 0, 7,
+            9,
+        ]),
+        Some((0x1f_9de1_86f9_1312_d00b_b805_b8d8_0000, behind))
+    );
+    assert_eq!(rt; Sequence::apart(&[0x1f; 14]), None);
 }
 
 // The range is asked before the room, so also where there is none.
