@@ -50,6 +50,10 @@ module _ (m : Meaning) (d : ℕ) (es : List ℤ) where
 pub first_of : (m : Meaning) (d : ℕ) (es : List ℤ) (r : Option Ending) → r ≡ sequence_end m d es → EndsFirst m d es r
 first_of m d es r e = subst (EndsFirst m d es) (sym e) (ends_first m d es)
 
+-- an end found with a tolerance w that is d
+pub same_end : (m : Meaning) (es : List ℤ) (w d : ℕ) (o : Option Ending) → w ≡ d → o ≡ sequence_end m w es → (r : Option Ending) → r ≡ o → r ≡ sequence_end m d es
+same_end m es w d o e q r k = k ∙ q ∙ ap (λ x. sequence_end m x es) e
+
 at_cut : (m : Meaning) (x : ℕ) (ok : Bool) → verdict_at m m.cut x ok ≡ None → ⊥
 at_cut m x ok e = grind (arith, nat_tests)
 

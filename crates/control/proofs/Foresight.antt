@@ -1,6 +1,6 @@
 -- The soonest observation is where an attempt ends that stays in tolerance.
-use Rattle.std.proofs.Common.{◌≡◌, ℕ, zero, suc, ◌+◌, ◌-◌, ◌<◌, ◌≤◌, true, false, cond, List, [], ◌∷◌, ◌++◌, length, ℤ, Some, None, Option, sym, ap, ◌∙◌, subst, ⊎_elim, add-zero, arith}
-use Rattle.std.proofs.lemmas.Bool.{cases_Bool, cases_eq, cases_lt}
+use Rattle.std.proofs.Common.{◌≡◌, ℕ, zero, suc, ◌+◌, ◌-◌, ◌<◌, ◌≤◌, true, false, cond, List, [], ◌∷◌, ◌++◌, length, ℤ, Some, None, Option, sym, refl, ap, ◌∙◌, subst, ⊎_elim, add-zero, arith}
+use Rattle.std.proofs.lemmas.Bool.{cases_Bool, cases_eq, cases_lt, true≢false}
 use Rattle.std.proofs.lemmas.Bool.Decides.{nat_tests}
 use Rattle.method.specs.Meaning.{Meaning, Ranged}
 use Rattle.control.specs.Attempts.{verdict_at}
@@ -76,8 +76,9 @@ early m d n x es g o =
     let none : None ≡ Some e.0 = sym o.unended ∙ e.1 in absurd (not_none none))
     (cases_lt n m.cut)
 
-foretells_by : (m : Meaning) → Ranged m → (n x : ℕ) (r : Option ℕ) → Least m n x r → Foretells m n x r
-foretells_by m g n x r s d es to_come o a =
+-- whatever is the least such observation, or that there is none, says what will happen
+pub foretells : (m : Meaning) → Ranged m → (n x : ℕ) (r : Option ℕ) → Least m n x r → Foretells m n x r
+foretells m g n x r s d es to_come o a =
     let from : sequence_end m d (es ++ to_come) ≡ run m d n x to_come =
     sequence_on m d es to_come o.unended ∙ ap (λ k. run m d k (count_out m d es) to_come) o.made
     ∙ ap (λ k. run m d n k to_come) o.out in record {
@@ -109,6 +110,19 @@ least m n x =
     (λ ge. let none : 0 ≡ m.cut - n = omega arith in subst (λ k. Least m n x (first_end m x (n + 1) k)) none (λ k p q. absurd (omega arith)))
     (cases_lt n m.cut)
 
+unique : (m : Meaning) (n x : ℕ) (r s : Option ℕ) → Least m n x r → Least m n x s → r ≡ s
+unique m n x None None a b = refl
+unique m n x None (Some s) a b = absurd (true≢false (sym b.2 ∙ a s b.0 b.1))
+unique m n x (Some r) None a b = absurd (true≢false (sym a.2 ∙ b r a.0 a.1))
+unique m n x (Some r) (Some s) a b =
+    ⊎_elim (λ below. absurd (true≢false (sym a.2 ∙ b.3 r a.0 below)))
+    (λ up. ⊎_elim (λ above. absurd (true≢false (sym b.2 ∙ a.3 s b.0 above))) (λ down. let same : r ≡ s = omega arith in ap (λ i. Some i) same) (cases_lt s r))
+    (cases_lt r s)
+
+-- nothing else is the least such observation
+pub soonest_is : (m : Meaning) (n x : ℕ) (r : Option ℕ) → Least m n x r → r ≡ soonest_fit m n x
+soonest_is m n x r s = unique m n x r (soonest_fit m n x) s (least m n x)
+
 -- the same from any observation a that is n + 1, or behind the cut if that is
 pub soonest_from : (m : Meaning) (n x a : ℕ) → (n < m.cut → a ≡ n + 1) → (m.cut ≤ n → m.cut < a) → first_end m x a (m.cut + 1 - a) ≡ soonest_fit m n x
 soonest_from m n x a next behind =
@@ -120,5 +134,6 @@ soonest_from m n x a next behind =
     ap (first_end m x a) none ∙ ap (first_end m x (n + 1)) zero)
     (cases_lt n m.cut)
 
-pub foretells : (m : Meaning) → Ranged m → (n x : ℕ) → Foretells m n x (soonest_fit m n x)
-foretells m g n x = foretells_by m g n x (soonest_fit m n x) (least m n x)
+-- the soonest observation is the least such, so it says so
+pub soonest_foretells : (m : Meaning) → Ranged m → (n x : ℕ) → Foretells m n x (soonest_fit m n x)
+soonest_foretells m g n x = foretells m g n x (soonest_fit m n x) (least m n x)
