@@ -83,7 +83,7 @@ impl<M: Plan, S: Plan> Verification<M, S> {
             Phase::Waiting => Err(Question::PointOpen),
             Phase::Decided(_) => Err(Question::Undecided),
             Phase::Settling(u) => {
-                let code = Code::new(code)?;
+                Code::new(code)?;
                 let next = self.plans.settle_with(control, carried, u, code);
                 Ok(self.counted(next))
             }
