@@ -2,7 +2,7 @@
 use crate::denied::Denied;
 use commands::{Reply, Run};
 use console::ChosenPlan;
-use method::{Question, Verdict};
+use method::Verdict;
 use runs::{Call, Outcome, audit};
 use std::alloc::Global;
 use verification::{Inspection, Orders, Ready, Verification, Written};
@@ -19,7 +19,8 @@ pub struct Ordered {
 
 #[derive(Drop)]
 pub struct Automatic {
-    running: Verification<ChosenPlan, ChosenPlan>,
+    // none only while its certificate is being written
+    running: Option<Verification<ChosenPlan, ChosenPlan>>,
     ordered: Ordered,
     // none where there was no memory for one of them
     calls: Option<Vec<Call>>,
@@ -40,7 +41,7 @@ fn come_to(outcome: Outcome) -> Run {
 impl Automatic {
     pub fn start(heap: Global, ready: Ready, orders: Orders, ordered: Ordered) -> Automatic {
         Automatic {
-            running: ready.start(orders, ordered.main, ordered.short),
+            running: Some(ready.start(orders, ordered.main, ordered.short)),
             ordered,
             calls: Some(Vec::new(heap)),
         }
@@ -58,7 +59,7 @@ impl Automatic {
     }
 
     fn answer(&mut self, call: Call, journal: &mut [u8]) -> Result<Reply, Denied> {
-        let running = &mut self.running;
+        let running = self.running.as_mut().ok_or(Denied::Misuse)?;
         match call {
             Call::Open {
                 signal,
@@ -80,25 +81,11 @@ impl Automatic {
     }
 
     // The certificate spends the verification; a refused one gives it back.
-    pub fn certify(
-        self,
-        journal: &mut [u8],
-        place: usize,
-    ) -> Result<Written, (Question, Automatic)> {
-        let Automatic {
-            running,
-            ordered,
-            calls,
-        } = self;
+    pub fn certify(&mut self, journal: &mut [u8], place: usize) -> Result<Written, Denied> {
+        let running = self.running.take().ok_or(Denied::Misuse)?;
         running.certify(journal, place).map_err(|(question, running)| {
-            (
-                question,
-                Automatic {
-                    running,
-                    ordered,
-                    calls,
-                },
-            )
+            self.running = Some(running);
+            Denied::Refused(question)
         })
     }
 

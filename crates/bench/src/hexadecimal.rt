@@ -1,6 +1,9 @@
 // The journal's bytes in hexadecimal, as they are typed and printed.
+ghost use Rattle.std.specs.Prelude.{◌≤◌, length};
+
 use crate::denied::Denied;
-use std::alloc::{AllocError, Global};
+use console::push_bytes;
+use std::alloc::AllocError;
 
 // Overwrites the journal's bytes from a place on, where all that are typed lie in it.
 pub fn overwrite(journal: &mut [u8], place: usize, word: &[u8]) -> Result<(), Denied> {
@@ -12,10 +15,29 @@ pub fn overwrite(journal: &mut [u8], place: usize, word: &[u8]) -> Result<(), De
     hex::decode_to_slice(word, bytes).map_err(|_| Denied::Syntax)
 }
 
-// The answer with the journal's bytes.
-pub fn dump_text(heap: Global, journal: &[u8]) -> Result<String, AllocError> {
+// As many bytes as are written in one piece, in fixed memory.
+const PIECE: usize = 64;
+
+fn push_digits(text: &mut Vec<u8>, piece: &[u8]) -> Result<(), AllocError>
+    requires { length piece.now ≤ 64 }
+{
+    let mut room = [0; 2 * PIECE];
+    let digits = &mut room[..2 * piece.len()];
+    hex::encode_to_slice(piece, digits).unwrap();
+    push_bytes(text, digits)
+}
+
+// Puts the answer with the journal's bytes behind others, as a line.
+pub fn push_dump(text: &mut Vec<u8>, journal: &[u8]) -> Result<(), AllocError> {
+    push_bytes(text, b"ok ")?;
     if journal.is_empty() {
-        return String::from_str(heap, "ok -\n");
+        push_bytes(text, b"-")?;
     }
-    Ok(format!(in heap; "ok {}\n", hex::encode(heap, journal)?)?)
+    let mut rest = journal;
+    while !rest.is_empty() {
+        let (piece, behind) = rest.split_at(rest.len().min(PIECE));
+        push_digits(text, piece)?;
+        rest = behind;
+    }
+    push_bytes(text, b"\n")
 }

@@ -1,4 +1,6 @@
 // The lines of the input, each answered where it lies in the reader's buffer.
+ghost use Rattle.std.specs.Prelude.{◌<◌, length};
+
 use crate::session::Session;
 use memchr::memchr;
 use std::alloc::Global;
@@ -8,38 +10,56 @@ use std::io::{BufRead, BufReader, Write};
 // How many bytes of answers are gathered before they are handed on.
 const ROOM: usize = 8192;
 
-// Answers the lines of a buffer. One that does not end in it is put together in `begun`.
+// Hands the answers on. What was handed on in part is not handed on again.
+fn hand_on<W: Write>(answers: &mut Vec<u8>, out: &mut W) -> io::Result<()>
+    ensures { length answers.new.items < 8192 }
+{
+    let handed_on = out.write_all(answers.as_slice());
+    answers.clear();
+    handed_on
+}
+
+// Keeps the latest fault.
+fn keep<E: Into<io::Error> + Drop>(kept: &mut io::Result<()>, done: Result<(), E>) {
+    if let Err(fault) = done {
+        *kept = Err(fault.into());
+    }
+}
+
+// Answers the lines of a buffer. One that does not end in it is put together in `begun`. A fault is kept, and the lines behind it
+// are answered all the same. However many lines there are, fewer bytes than `ROOM` are left waiting.
 fn answer_lines<W: Write>(
     session: &mut Session,
     begun: &mut Vec<u8>,
     held: &[u8],
     answers: &mut Vec<u8>,
     out: &mut W,
-) -> io::Result<()> {
+) -> io::Result<()>
+    requires { length answers.old.items < 8192 }
+    ensures { length answers.new.items < 8192 }
+{
+    let mut kept = Ok(());
     let mut rest = held;
     while let Some(end) = memchr(b'\n', rest) {
         let (line, behind) = rest.split_at(end);
         if begun.is_empty() {
-            session.answer(line, answers)?;
+            keep(&mut kept, session.answer(line, answers));
         } else {
             begun.extend_from_slice(line)?;
-            session.answer(begun.as_slice(), answers)?;
+            keep(&mut kept, session.answer(begun.as_slice(), answers));
             begun.clear();
         }
         if answers.len() >= ROOM {
-            // what was handed on in part is not handed on again
-            let handed_on = out.write_all(answers.as_slice());
-            answers.clear();
-            handed_on?;
+            keep(&mut kept, hand_on(answers, out));
         }
         rest = &behind[1..];
     }
     begun.extend_from_slice(rest)?;
-    Ok(())
+    kept
 }
 
 // Answers lines until the input ends, the last one also without a newline. Whoever waits for an answer has it before
-// more input is waited for.
+// more input is waited for; a fault ends the conversation before more of it is answered.
 pub fn converse(
     heap: Global,
     input: impl io::Read + Drop,
@@ -49,20 +69,19 @@ pub fn converse(
     let mut session = Session::new(heap);
     let mut begun = Vec::new(heap);
     let mut answers = Vec::new(heap);
+    let mut kept = Ok(());
     // the toolchain's form of a loop that ends with its input
     for _ in 0..u64::MAX {
         let held = input.fill_buf()?;
-        if held.is_empty() {
+        if held.is_empty() || kept.is_err() {
             break;
         }
-        let answered = answer_lines(&mut session, &mut begun, held, &mut answers, &mut out);
-        // also where there was no memory for the next one
-        out.write_all(answers.as_slice())?;
-        answers.clear();
-        answered?;
+        kept = answer_lines(&mut session, &mut begun, held, &mut answers, &mut out);
+        keep(&mut kept, hand_on(&mut answers, &mut out));
         let length = held.len();
         input.consume(length);
     }
-    session.answer(begun.as_slice(), &mut answers)?;
-    out.write_all(answers.as_slice())
+    keep(&mut kept, session.answer(begun.as_slice(), &mut answers));
+    keep(&mut kept, hand_on(&mut answers, &mut out));
+    kept
 }

@@ -1,64 +1,76 @@
 // Records as they are printed: their fields in order behind the kind's number, one-bit fields 0 or 1.
+use console::{push_bytes, push_number};
 use journal::{
     Certificate, Fault, Layer, Notice, Placed, Reader, Record, RecordKind, Sequence, ThreeStep,
 };
-use std::alloc::{AllocError, Global};
-use std::fmt::Write;
+use std::alloc::AllocError;
 
-// The fields of a record behind its kind's number, each as the number that is printed.
-fn write_fields(text: &mut String, kind: u8, fields: &[i32]) -> Result<(), AllocError> {
-    write!(text, "{kind}")?;
-    let mut before = ':';
+// A number behind a mark. Most are of one digit, which is put without being formatted.
+fn push_marked(text: &mut Vec<u8>, mark: u8, number: i32) -> Result<(), AllocError> {
+    match u8::try_from(number) {
+        Ok(digit) if digit < 10 => push_bytes(text, &[mark, b'0' + digit]),
+        _ => {
+            push_bytes(text, &[mark])?;
+            push_number(text, number)
+        }
+    }
+}
+
+// The fields of a record behind its kind's number. By pieces: `write!` into a text took twice the time of a reading.
+fn push_fields(text: &mut Vec<u8>, kind: u8, fields: &[i32]) -> Result<(), AllocError> {
+    push_marked(text, b':', i32::from(kind))?;
+    let mut mark = b':';
     for field in fields {
-        write!(text, "{before}{field}")?;
-        before = ',';
+        push_marked(text, mark, *field)?;
+        mark = b',';
     }
     Ok(())
 }
 
-fn write_record(text: &mut String, record: Record) -> Result<(), AllocError> {
+fn push_record(text: &mut Vec<u8>, record: Record) -> Result<(), AllocError> {
     match record {
-        Record::Sequence(fields) => write_fields(text, Sequence::NUMBER, &fields.numbers()),
-        Record::ThreeStep(fields) => write_fields(text, ThreeStep::NUMBER, &fields.numbers()),
-        Record::Certificate(fields) => write_fields(text, Certificate::NUMBER, &fields.numbers()),
-        Record::Notice(fields) => write_fields(text, Notice::NUMBER, &fields.numbers()),
+        Record::Sequence(fields) => push_fields(text, Sequence::NUMBER, &fields.numbers()),
+        Record::ThreeStep(fields) => push_fields(text, ThreeStep::NUMBER, &fields.numbers()),
+        Record::Certificate(fields) => push_fields(text, Certificate::NUMBER, &fields.numbers()),
+        Record::Notice(fields) => push_fields(text, Notice::NUMBER, &fields.numbers()),
     }
 }
 
 // ORDINAL:FIRST:KIND:FIELDS
-fn write_placed(text: &mut String, placed: Placed) -> Result<(), AllocError> {
-    let place = placed.place;
-    write!(text, " {}:{}:", place.ordinal, place.first_byte)?;
-    write_record(text, placed.record)
+fn push_placed(text: &mut Vec<u8>, placed: Placed) -> Result<(), AllocError> {
+    push_bytes(text, b" ")?;
+    push_number(text, placed.place.ordinal)?;
+    push_bytes(text, b":")?;
+    push_number(text, placed.place.first_byte)?;
+    push_record(text, placed.record)
 }
 
-fn write_fault(text: &mut String, fault: Fault) -> Result<(), AllocError> {
-    let place = fault.place;
-    writeln!(
+fn push_fault(text: &mut Vec<u8>, fault: Fault) -> Result<(), AllocError> {
+    push_bytes(text, b" fault ")?;
+    push_number(text, fault.question.number())?;
+    push_bytes(text, b" ")?;
+    push_number(text, fault.place.ordinal)?;
+    push_bytes(text, b" ")?;
+    push_number(text, fault.place.first_byte)?;
+    push_bytes(
         text,
-        " fault {} {} {} {}",
-        fault.question.number(),
-        place.ordinal,
-        place.first_byte,
-        fault.layer
+        match fault.layer {
+            Layer::Kind => b" kind\n",
+            Layer::Bits => b" bits\n",
+            Layer::Field => b" field\n",
+        },
     )
 }
 
-// The answer with the records of a journal, up to its end or the first fault.
-pub fn reading_text(heap: Global, journal: &[u8]) -> Result<String, AllocError> {
-    let mut text = String::from_str(heap, "ok")?;
+// Puts the answer with the records of a journal behind others, as a line, up to the end or the first fault.
+pub fn push_reading(text: &mut Vec<u8>, journal: &[u8]) -> Result<(), AllocError> {
+    push_bytes(text, b"ok")?;
     let mut reader = Reader::new(journal);
     loop {
         match reader.next() {
-            Ok(Some(placed)) => write_placed(&mut text, placed)?,
-            Ok(None) => {
-                text.push_str(" end\n")?;
-                return Ok(text);
-            }
-            Err(fault) => {
-                write_fault(&mut text, fault)?;
-                return Ok(text);
-            }
+            Ok(Some(placed)) => push_placed(text, placed)?,
+            Ok(None) => return push_bytes(text, b" end\n"),
+            Err(fault) => return push_fault(text, fault),
         }
     }
 }

@@ -1,10 +1,10 @@
 // A session: the stage, the two plans and the journal.
 use crate::automatic::{Automatic, Ordered};
 use crate::denied::Denied;
-use crate::hexadecimal::{dump_text, overwrite};
-use crate::record_text::reading_text;
+use crate::hexadecimal::{overwrite, push_dump};
+use crate::record_text::push_reading;
 use crate::record_words::parse_record;
-use crate::stage::Stage;
+use crate::stage::{Manual, Stage};
 use commands::{
     Command, Line, Norms, PlanNumbers, Reply, Role, fixed_line, parse_line, push_reply,
 };
@@ -13,7 +13,7 @@ use journal::{Signal, write_record};
 use method::{Plan, ThreeStep};
 use runs::Call;
 use std::alloc::{AllocError, Global};
-use verification::Check;
+use verification::{Check, Orders};
 
 // The longest journal that a session has room for.
 const JOURNAL_MAX: usize = 65_536;
@@ -48,22 +48,32 @@ fn norms(plan: ChosenPlan, i: u32) -> Reply {
     })
 }
 
-// Puts an answer behind others as a line, or nothing of it where there is no memory.
+// Puts an answer behind others, as a line.
 fn say(reply: &Reply, answers: &mut Vec<u8>) -> Result<(), AllocError> {
     if let Some(line) = fixed_line(reply) {
         return answers.extend_from_slice(line);
     }
-    let before = answers.len();
-    let said = push_line(answers, reply);
-    if said.is_err() {
-        answers.truncate(before);
-    }
-    said
+    put_whole(answers, |text| push_line(text, reply))
 }
 
-fn push_line(answers: &mut Vec<u8>, reply: &Reply) -> Result<(), AllocError> {
-    push_reply(answers, reply)?;
-    push_bytes(answers, b"\n")
+fn push_line(text: &mut Vec<u8>, reply: &Reply) -> Result<(), AllocError> {
+    push_reply(text, reply)?;
+    push_bytes(text, b"\n")
+}
+
+// Puts an answer behind others where it lies, or nothing of it where there is no memory.
+fn put_whole<F: FnOnce(&mut Vec<u8>) -> Result<(), AllocError>>(
+    answers: &mut Vec<u8>,
+    push: F,
+) -> Result<(), AllocError>
+    requires { F.IsAlwaysCallable push }
+{
+    let before = answers.len();
+    let put = push(answers);
+    if put.is_err() {
+        answers.truncate(before);
+    }
+    put
 }
 
 impl Session {
@@ -128,11 +138,14 @@ impl Session {
     }
 
     fn report(&mut self, signal: Signal, check: Check) -> Result<Reply, Denied> {
-        self.stage.pass(|stage| stage.report(signal, check))
+        let Stage::Manual(manual) = &mut self.stage else {
+            return Err(Denied::Misuse);
+        };
+        manual.report(signal, check)
     }
 
     fn write_notice(&mut self, place: usize) -> Result<Reply, Denied> {
-        let Stage::Failed(notice) = &self.stage else {
+        let Stage::Manual(Manual::Failed(notice)) = &self.stage else {
             return Err(Denied::Misuse);
         };
         let length = notice.write(self.journal.as_mut_slice(), place)?;
@@ -159,14 +172,22 @@ impl Session {
 
     // Numbers as they are typed: whether a control or a rule of that number is known is a question.
     fn order(&mut self, points: i32, control: i32, rule: i32) -> Result<Reply, Denied> {
-        let heap = self.heap;
+        let Stage::Manual(manual) = &mut self.stage else {
+            return Err(Denied::Misuse);
+        };
+        let Manual::Ready(_) = manual else {
+            return Err(Denied::Misuse);
+        };
+        let orders = Orders::new(points, control, rule)?;
+        let ready = manual.spend().ok_or(Denied::Misuse)?;
         let ordered = Ordered {
             points,
             control,
             main: self.main,
             short: self.short,
         };
-        self.stage.pass(|stage| stage.order(heap, ordered, rule))
+        self.stage = Stage::Automatic(Automatic::start(self.heap, ready, orders, ordered));
+        Ok(Reply::Done)
     }
 
     fn renew_journal(&mut self, length: i32) -> Result<Reply, Denied> {
@@ -178,9 +199,14 @@ impl Session {
         Ok(Reply::Done)
     }
 
+    // The certificate spends the verification, and the manual stage is at its start again.
     fn certify(&mut self, place: usize) -> Result<Reply, Denied> {
-        let journal = self.journal.as_mut_slice();
-        self.stage.pass(|stage| stage.certify(journal, place))
+        let Stage::Automatic(automatic) = &mut self.stage else {
+            return Err(Denied::Misuse);
+        };
+        let written = automatic.certify(self.journal.as_mut_slice(), place)?;
+        self.stage = Stage::start();
+        Ok(Reply::Closed(written.verdict, written.length))
     }
 
     fn audit(&self) -> Result<Reply, Denied> {
@@ -191,12 +217,12 @@ impl Session {
     }
 
     fn dump(&self, answers: &mut Vec<u8>) -> Result<(), AllocError> {
-        answers.extend_from_slice(dump_text(self.heap, self.journal.as_slice())?.as_bytes())
+        put_whole(answers, |text| push_dump(text, self.journal.as_slice()))
     }
 
     // The records of a part of the journal, as a journal of their own.
     fn read(
-        &mut self,
+        &self,
         place: usize,
         end: Option<usize>,
         answers: &mut Vec<u8>,
@@ -205,7 +231,7 @@ impl Session {
         let Some(bytes) = self.journal.get(place..end) else {
             return say(&Reply::Misuse, answers);
         };
-        answers.extend_from_slice(reading_text(self.heap, bytes)?.as_bytes())
+        put_whole(answers, |text| push_reading(text, bytes))
     }
 
     fn put_bytes(&mut self, place: usize, line: &[u8]) -> Result<Reply, Denied> {

@@ -1,5 +1,5 @@
 use Rattle.std.proofs.Common.{◌≡◌, ◌-◌, length}
-use Rattle.bench.proofs.record_text.reading_text.Given as goal
+use Rattle.bench.proofs.record_text.push_reading.Given as goal
 
 abbrev pub invariant-loop-placed : goal.invariant-loop-placed
 invariant-loop-placed l = l.reader.journal.now ≡ l.journal
