@@ -18,7 +18,7 @@ pub fn overwrite(journal: &mut [u8], place: usize, word: &[u8]) -> Result<(), De
 // As many bytes as are written in one piece, in fixed memory.
 const PIECE: usize = 64;
 
-fn push_digits(text: &mut Vec<u8>, piece: &[u8]) -> Result<(), AllocError>
+fn push_piece(text: &mut Vec<u8>, piece: &[u8]) -> Result<(), AllocError>
     requires { length piece.now ≤ 64 }
 {
     let mut room = [0; 2 * PIECE];
@@ -36,7 +36,7 @@ pub fn push_dump(text: &mut Vec<u8>, journal: &[u8]) -> Result<(), AllocError> {
     let mut rest = journal;
     while !rest.is_empty() {
         let (piece, behind) = rest.split_at(rest.len().min(PIECE));
-        push_digits(text, piece)?;
+        push_piece(text, piece)?;
         rest = behind;
     }
     push_bytes(text, b"\n")

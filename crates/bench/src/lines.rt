@@ -11,7 +11,7 @@ use std::io::{BufRead, BufReader, Write};
 const ROOM: usize = 8192;
 
 // Hands the answers on. What was handed on in part is not handed on again.
-fn hand_on<W: Write>(answers: &mut Vec<u8>, out: &mut W) -> io::Result<()>
+pub fn hand_on<W: Write>(answers: &mut Vec<u8>, out: &mut W) -> io::Result<()>
     ensures { length answers.new.items < 8192 }
 {
     let handed_on = out.write_all(answers.as_slice());
@@ -20,9 +20,9 @@ fn hand_on<W: Write>(answers: &mut Vec<u8>, out: &mut W) -> io::Result<()>
 }
 
 // Keeps the latest fault.
-fn keep<E: Into<io::Error> + Drop>(kept: &mut io::Result<()>, done: Result<(), E>) {
+fn keep(kept: &mut io::Result<()>, done: io::Result<()>) {
     if let Err(fault) = done {
-        *kept = Err(fault.into());
+        *kept = Err(fault);
     }
 }
 
@@ -43,10 +43,10 @@ fn answer_lines<W: Write>(
     while let Some(end) = memchr(b'\n', rest) {
         let (line, behind) = rest.split_at(end);
         if begun.is_empty() {
-            keep(&mut kept, session.answer(line, answers));
+            keep(&mut kept, session.answer(line, answers, out));
         } else {
             begun.extend_from_slice(line)?;
-            keep(&mut kept, session.answer(begun.as_slice(), answers));
+            keep(&mut kept, session.answer(begun.as_slice(), answers, out));
             begun.clear();
         }
         if answers.len() >= ROOM {
@@ -59,7 +59,7 @@ fn answer_lines<W: Write>(
 }
 
 // Answers lines until the input ends, the last one also without a newline. Whoever waits for an answer has it before
-// more input is waited for; a fault ends the conversation before more of it is answered.
+// more input is waited for. A fault ends the conversation behind the lines that were read with it.
 pub fn converse(
     heap: Global,
     input: impl io::Read + Drop,
@@ -69,19 +69,19 @@ pub fn converse(
     let mut session = Session::new(heap);
     let mut begun = Vec::new(heap);
     let mut answers = Vec::new(heap);
-    let mut kept = Ok(());
     // the toolchain's form of a loop that ends with its input
     for _ in 0..u64::MAX {
         let held = input.fill_buf()?;
-        if held.is_empty() || kept.is_err() {
+        if held.is_empty() {
             break;
         }
-        kept = answer_lines(&mut session, &mut begun, held, &mut answers, &mut out);
+        let mut kept = answer_lines(&mut session, &mut begun, held, &mut answers, &mut out);
         keep(&mut kept, hand_on(&mut answers, &mut out));
+        kept?;
         let length = held.len();
         input.consume(length);
     }
-    keep(&mut kept, session.answer(begun.as_slice(), &mut answers));
+    let mut kept = session.answer(begun.as_slice(), &mut answers, &mut out);
     keep(&mut kept, hand_on(&mut answers, &mut out));
     kept
 }

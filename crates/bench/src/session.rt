@@ -2,6 +2,7 @@
 use crate::automatic::{Automatic, Ordered};
 use crate::denied::Denied;
 use crate::hexadecimal::{overwrite, push_dump};
+use crate::lines::hand_on;
 use crate::record_text::push_reading;
 use crate::record_words::parse_record;
 use crate::stage::{Manual, Stage};
@@ -13,10 +14,15 @@ use journal::{Signal, write_record};
 use method::{Plan, ThreeStep};
 use runs::Call;
 use std::alloc::{AllocError, Global};
+use std::io;
+use std::io::Write;
 use verification::{Check, Orders};
 
 // The longest journal that a session has room for.
 const JOURNAL_MAX: usize = 65_536;
+
+// From how many bytes of a journal on its text may be longer than what waits to be handed on.
+const LONG: usize = 512;
 
 // What a new journal is filled with.
 const BLANK: u8 = 0xAA;
@@ -61,6 +67,24 @@ fn push_line(text: &mut Vec<u8>, reply: &Reply) -> Result<(), AllocError> {
     push_bytes(text, b"\n")
 }
 
+// Puts a text of a journal's bytes behind other answers. A long one is put together where none waits, so that it takes the memory
+// of itself alone.
+fn put_text<W: Write, F: FnOnce(&mut Vec<u8>) -> Result<(), AllocError>>(
+    answers: &mut Vec<u8>,
+    out: &mut W,
+    bytes: &[u8],
+    push: F,
+) -> io::Result<()>
+    requires { F.IsAlwaysCallable push }
+{
+    let mut handed_on = Ok(());
+    if bytes.len() > LONG {
+        handed_on = hand_on(answers, out);
+    }
+    put_whole(answers, push)?;
+    handed_on
+}
+
 // Puts an answer behind others where it lies, or nothing of it where there is no memory.
 fn put_whole<F: FnOnce(&mut Vec<u8>) -> Result<(), AllocError>>(
     answers: &mut Vec<u8>,
@@ -89,21 +113,27 @@ impl Session {
     }
 
     // Puts the answer to a line behind others, as a line; blank lines and comments have none.
-    pub fn answer(&mut self, line: &[u8], answers: &mut Vec<u8>) -> Result<(), AllocError> {
+    pub fn answer<W: Write>(
+        &mut self,
+        line: &[u8],
+        answers: &mut Vec<u8>,
+        out: &mut W,
+    ) -> io::Result<()> {
         match parse_line(line) {
             Line::Silent => Ok(()),
-            Line::Syntax => say(&Reply::Syntax, answers),
-            Line::Command(command) => self.perform(command, line, answers),
+            Line::Syntax => Ok(say(&Reply::Syntax, answers)?),
+            Line::Command(command) => self.perform(command, line, answers, out),
         }
     }
 
     // Performs the command that a line was parsed as, and answers it.
-    fn perform(
+    fn perform<W: Write>(
         &mut self,
         command: Command,
         line: &[u8],
         answers: &mut Vec<u8>,
-    ) -> Result<(), AllocError> {
+        out: &mut W,
+    ) -> io::Result<()> {
         let done = match command {
             Command::Call(call) => self.call(call),
             Command::New => self.restart(),
@@ -116,12 +146,12 @@ impl Session {
             Command::Journal(length) => self.renew_journal(length),
             Command::Certificate(place) => self.certify(place),
             Command::Audit => self.audit(),
-            Command::Dump => return self.dump(answers),
-            Command::Read(place, end) => return self.read(place, end, answers),
+            Command::Dump => return self.dump(answers, out),
+            Command::Read(place, end) => return self.read(place, end, answers, out),
             Command::Bytes(place) => self.put_bytes(place, line),
             Command::Write(place, kind) => self.put_record(place, kind, line),
         };
-        say(&done.unwrap_or_else(Reply::from), answers)
+        Ok(say(&done.unwrap_or_else(Reply::from), answers)?)
     }
 
     // A call of the verification that runs, if one does.
@@ -216,22 +246,24 @@ impl Session {
         automatic.audit(self.heap, self.journal.len())
     }
 
-    fn dump(&self, answers: &mut Vec<u8>) -> Result<(), AllocError> {
-        put_whole(answers, |text| push_dump(text, self.journal.as_slice()))
+    fn dump<W: Write>(&self, answers: &mut Vec<u8>, out: &mut W) -> io::Result<()> {
+        let bytes = self.journal.as_slice();
+        put_text(answers, out, bytes, |text| push_dump(text, bytes))
     }
 
     // The records of a part of the journal, as a journal of their own.
-    fn read(
+    fn read<W: Write>(
         &self,
         place: usize,
         end: Option<usize>,
         answers: &mut Vec<u8>,
-    ) -> Result<(), AllocError> {
+        out: &mut W,
+    ) -> io::Result<()> {
         let end = end.unwrap_or(self.journal.len());
         let Some(bytes) = self.journal.get(place..end) else {
-            return say(&Reply::Misuse, answers);
+            return Ok(say(&Reply::Misuse, answers)?);
         };
-        put_whole(answers, |text| push_reading(text, bytes))
+        put_text(answers, out, bytes, |text| push_reading(text, bytes))
     }
 
     fn put_bytes(&mut self, place: usize, line: &[u8]) -> Result<Reply, Denied> {
