@@ -27,7 +27,8 @@ fn keep(kept: &mut io::Result<()>, done: io::Result<()>) {
 }
 
 // Answers the lines of a buffer. One that does not end in it is put together in `begun`. A fault is kept, and the lines behind it
-// are answered all the same. However many lines there are, fewer bytes than `ROOM` are left waiting.
+// are answered all the same, but for those behind a line that was put together. However many lines there are, fewer bytes than
+// `ROOM` are left waiting.
 fn answer_lines<W: Write>(
     session: &mut Session,
     begun: &mut Vec<u8>,
@@ -48,6 +49,10 @@ fn answer_lines<W: Write>(
             begun.extend_from_slice(line)?;
             keep(&mut kept, session.answer(begun.as_slice(), answers, out));
             begun.clear();
+            if kept.is_err() {
+                keep(&mut kept, hand_on(answers, out));
+                return kept;
+            }
         }
         if answers.len() >= ROOM {
             keep(&mut kept, hand_on(answers, out));
