@@ -71,6 +71,10 @@ next_after (Main Nothing) dominance = cond dominance used.Short used.Main
 next_after (Main (SequenceAlone n)) dominance = cond dominance used.Short used.Main
 next_after (Main (QuantityAlone n)) dominance = cond dominance used.Short used.Main
 
+-- what a point leaves to the next whose last attempt ran so, with the dominance then
+abbrev pub left_by : Course → Bool → Carried
+left_by c dominance = record { dominance = dominance; next = next_after c dominance }
+
 -- what a decided point leaves to the next
 abbrev pub leaves : Outcome → Carried
-leaves o = record { dominance = o.dominance; next = next_after o.trial.course o.dominance }
+leaves o = left_by o.trial.course o.dominance

@@ -14,12 +14,15 @@ abbrev pub legal_code : ℤ → Bool
 legal_code c = between (negsuc 1999998) (pos 1999999) c
 
 -- while settling: the main signal, no observation, and the soonest end of the plan that the point begins with
-abbrev pub settling_level_of : Meaning → Meaning → Control → Carried → Unsettled → Level
-settling_level_of m s k h u = record {
-  tenths = u.setting.signal;
+abbrev pub settling_level_at : Meaning → Meaning → Control → Carried → ℤ → Level
+settling_level_at m s k h signal = record {
+  tenths = signal;
   observation = None;
   soonest = soonest_fit (plan_used m s (begins k h)) 0 0;
 }
+
+abbrev pub settling_level_of : Meaning → Meaning → Control → Carried → Unsettled → Level
+settling_level_of m s k h u = settling_level_at m s k h u.setting.signal
 
 -- while observing: the level and number of the coming observation, and the attempt's soonest end
 abbrev pub observing_level_of : Meaning → Trial → Level

@@ -12,6 +12,8 @@ use Rattle.point.specs.declared.phase.Carried.{Carried}
 use Rattle.point.specs.declared.phase.Control.{Control}
 use Rattle.point.specs.declared.phase.Phase.{Phase}
 use Rattle.point.specs.declared.phase.Phase.TheVariants.{Waiting, Settling, Observing, Decided}
+use Rattle.point.specs.declared.phase.State.{State}
+use Rattle.point.specs.declared.phase.State.TheVariants as state
 use Rattle.point.specs.declared.phase.Trial.{Trial}
 use Rattle.point.specs.declared.phase.Unsettled.{Unsettled}
 use Rattle.point.specs.declared.setting.Setting.{Setting}
@@ -58,3 +60,17 @@ reached Waiting = None
 reached (Settling u) = None
 reached (Observing a) = None
 reached (Decided o) = Some o.verdict
+
+-- how far a point is, without its numbers
+abbrev pub state_of : Phase → State
+state_of Waiting = state.Waiting
+state_of (Settling u) = state.Settling
+state_of (Observing a) = state.Observing
+state_of (Decided o) = state.Decided o.verdict
+
+-- how a point in this state was decided, if it was
+abbrev pub found : State → Option Verdict
+found state.Waiting = None
+found state.Settling = None
+found state.Observing = None
+found (state.Decided v) = Some v

@@ -1,7 +1,7 @@
 // What the end of an attempt means for its point.
 ghost use Rattle.std.specs.Prelude.{◌≡◌, ◌+◌, ◌≤◌};
 ghost use Rattle.point.specs.Bounds.{Takes, made_before, taken_by};
-ghost use Rattle.point.specs.Ends.{another, attempt_end, decided, first_full, leaves, main_end, next_after, second_full, short_end};
+ghost use Rattle.point.specs.Ends.{another, attempt_end, decided, first_full, leaves, left_by, main_end, next_after, second_full, short_end};
 ghost use Rattle.point.specs.Phases.{led_to, observe_on};
 ghost use Rattle.point.specs.Trials.{plan_of};
 
@@ -173,14 +173,23 @@ fn plan_after(course: Course, dominance: bool) -> PlanUsed
     }
 }
 
+impl Carried {
+    // What a point passes on whose last attempt ran so, with the dominance then.
+    pub fn after(course: Course, dominance: bool) -> Carried
+        ensures { result ≡ left_by course dominance }
+    {
+        Carried {
+            dominance,
+            next: plan_after(course, dominance),
+        }
+    }
+}
+
 impl Outcome {
     // What a decided point passes on to the next.
     pub fn passed_on(&self) -> Carried
         ensures { result ≡ leaves self.now }
     {
-        Carried {
-            dominance: self.dominance,
-            next: plan_after(self.trial.trial.course, self.dominance),
-        }
+        Carried::after(self.trial.trial.course, self.dominance)
     }
 }

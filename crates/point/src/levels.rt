@@ -1,10 +1,10 @@
 // Levels of the signal, and the errors of codes at them.
 ghost use Rattle.std.specs.Prelude.{◌≡◌, ◌≤◌, pos, ◌+ℤ◌, ◌-ℤ◌, ◌*ℤ◌, unsigned_abs};
-ghost use Rattle.point.specs.Levels.{observing_level_of, settling_level_of};
+ghost use Rattle.point.specs.Levels.{observing_level_of, settling_level_at};
 ghost use Rattle.point.specs.Trials.{error_at, level_at, plan_of};
 
 use crate::code::Code;
-use crate::phase::{Carried, Control, Course, Level, PlanUsed, Trial, Unsettled};
+use crate::phase::{Carried, Control, Course, Level, PlanUsed, Trial};
 use crate::plans::Plans;
 use crate::setting::Setting;
 use crate::trials::begins_with;
@@ -67,16 +67,16 @@ fn level_on<P: Plan>(plan: &P, trial: Trial) -> Level
 }
 
 impl<M: Plan, S: Plan> Plans<M, S> {
-    // What is to be set while a point settles: the main signal.
-    pub fn settling_level(&self, control: Control, carried: Carried, point: Unsettled) -> Level
-        ensures { result ≡ settling_level_of (M.Plan.meaning self.now.main) (S.Plan.meaning self.now.short) control carried point }
+    // What is to be set while a point settles: the main signal, whatever its size.
+    pub fn settling_level(&self, control: Control, carried: Carried, signal: i32) -> Level
+        ensures { result ≡ settling_level_at (M.Plan.meaning self.now.main) (S.Plan.meaning self.now.short) control carried signal }
     {
         let soonest = match begins_with(control, carried) {
             PlanUsed::Main => soonest_fit(&self.main, 0, 0),
             PlanUsed::Short => soonest_fit(&self.short, 0, 0),
         };
         Level {
-            tenths: point.setting.signal,
+            tenths: signal,
             observation: None,
             soonest,
         }

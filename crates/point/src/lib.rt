@@ -12,8 +12,8 @@ mod trials;
 
 pub use code::Code;
 pub use phase::{
-    Before, Carried, Control, Course, Ended, Level, Ongoing, Outcome, Phase, PlanUsed, Trial,
-    Unsettled,
+    Before, Carried, Control, Course, Ended, Level, Ongoing, Outcome, Phase, PlanUsed, State,
+    Trial, Unsettled,
 };
 pub use plans::Plans;
 pub use setting::Setting;

@@ -1,7 +1,7 @@
 // How far a point is.
 ghost use Rattle.point.specs.Bounds.{Takes};
 ghost use Rattle.point.specs.Controls.{NamesControl};
-ghost use Rattle.point.specs.Phases.{opened, reached};
+ghost use Rattle.point.specs.Phases.{found, opened, reached, state_of};
 ghost use Rattle.std.specs.Prelude.{◌≡◌, ◌≤◌};
 
 use crate::setting::Setting;
@@ -179,6 +179,27 @@ pub struct Level {
     pub soonest: Option<u32>,
 }
 
+// How far a point is, without its numbers.
+#[derive(Clone, Copy, PartialEq, Eq, Debug)]
+pub enum State {
+    Waiting,
+    Settling,
+    Observing,
+    Decided(Verdict),
+}
+
+impl State {
+    // How a point in this state was decided, if it was.
+    pub fn verdict(self) -> Option<Verdict>
+        ensures { result ≡ found self }
+    {
+        match self {
+            State::Decided(verdict) => Some(verdict),
+            _ => None,
+        }
+    }
+}
+
 impl Phase {
     // A point just opened.
     pub fn opened(setting: Setting) -> Phase
@@ -191,13 +212,22 @@ impl Phase {
         })
     }
 
+    // How far the point is.
+    pub fn state(&self) -> State
+        ensures { result ≡ state_of self.now }
+    {
+        match self {
+            Phase::Waiting => State::Waiting,
+            Phase::Settling(_) => State::Settling,
+            Phase::Observing(_) => State::Observing,
+            Phase::Decided(outcome) => State::Decided(outcome.verdict),
+        }
+    }
+
     // How the point was decided, if it was.
     pub fn verdict(&self) -> Option<Verdict>
         ensures { result ≡ reached self.now }
     {
-        match self {
-            Phase::Decided(outcome) => Some(outcome.verdict),
-            _ => None,
-        }
+        self.state().verdict()
     }
 }

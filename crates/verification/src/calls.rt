@@ -62,7 +62,9 @@ impl<M: Plan, S: Plan> Verification<M, S> {
             Phase::Waiting => Err(Question::PointOpen),
             Phase::Settling(u) => {
                 let control = self.declared.control;
-                Ok(self.plans.settling_level(control, self.progress.carried, u))
+                let carried = self.progress.carried;
+                let signal = u.setting.signal;
+                Ok(self.plans.settling_level(control, carried, signal))
             }
             Phase::Observing(a) => Ok(self.plans.observing_level(a.trial)),
             Phase::Decided(_) => Err(Question::Undecided),
