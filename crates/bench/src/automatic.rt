@@ -1,4 +1,4 @@
-// The automatic stage: a verification that runs, what it was ordered with, and the calls made since.
+// The automatic stage: a verification that runs, and what it was ordered with.
 use crate::denied::Denied;
 use commands::{Reply, Run};
 use console::ChosenPlan;
@@ -22,8 +22,6 @@ pub struct Automatic {
     // none only while its certificate is being written
     running: Option<Verification<ChosenPlan, ChosenPlan>>,
     ordered: Ordered,
-    // none where there was no memory for one of them
-    calls: Option<Vec<Call>>,
 }
 
 fn decision(verdict: Option<Verdict>) -> Reply {
@@ -39,26 +37,15 @@ fn come_to(outcome: Outcome) -> Run {
 }
 
 impl Automatic {
-    pub fn start(heap: Global, ready: Ready, orders: Orders, ordered: Ordered) -> Automatic {
+    pub fn start(ready: Ready, orders: Orders, ordered: Ordered) -> Automatic {
         Automatic {
             running: Some(ready.start(orders, ordered.main, ordered.short)),
             ordered,
-            calls: Some(Vec::new(heap)),
         }
     }
 
-    // Makes a call. It is kept for an audit.
+    // Makes a call.
     pub fn call(&mut self, call: Call, journal: &mut [u8]) -> Result<Reply, Denied> {
-        if let Some(calls) = &mut self.calls {
-            // without memory for the list the call is made all the same
-            if calls.push(call).is_err() {
-                self.calls = None;
-            }
-        }
-        self.answer(call, journal)
-    }
-
-    fn answer(&mut self, call: Call, journal: &mut [u8]) -> Result<Reply, Denied> {
         let running = self.running.as_mut().ok_or(Denied::Misuse)?;
         match call {
             Call::Open {
@@ -89,9 +76,8 @@ impl Automatic {
         })
     }
 
-    // What the calls come to under each stop rule, with a scratch buffer of a length.
-    pub fn audit(&self, heap: Global, length: usize) -> Result<Reply, Denied> {
-        let calls = self.calls.as_ref().ok_or(Denied::Misuse)?;
+    // What calls come to under each stop rule, with a scratch buffer of a length.
+    pub fn audit(&self, heap: Global, calls: &[Call], length: usize) -> Result<Reply, Denied> {
         let mut scratch = vec![in heap; 0u8; length]?;
         let ordered = self.ordered;
         let audited = audit(
@@ -101,7 +87,7 @@ impl Automatic {
             ordered.control,
             ordered.main,
             ordered.short,
-            calls.as_slice(),
+            calls,
             scratch.as_mut_slice(),
             0,
         )?;

@@ -27,7 +27,7 @@ fn push_piece(text: &mut Vec<u8>, piece: &[u8]) -> Result<(), AllocError>
     push_bytes(text, digits)
 }
 
-// Puts the answer with the journal's bytes behind others, as a line.
+// Puts the answer with the journal's bytes behind a text.
 pub fn push_dump(text: &mut Vec<u8>, journal: &[u8]) -> Result<(), AllocError> {
     push_bytes(text, b"ok ")?;
     if journal.is_empty() {
@@ -35,9 +35,11 @@ pub fn push_dump(text: &mut Vec<u8>, journal: &[u8]) -> Result<(), AllocError> {
     }
     let mut rest = journal;
     while !rest.is_empty() {
-        let (piece, behind) = rest.split_at(rest.len().min(PIECE));
+        // short pieces first, so that the text's room grows by doubling from the least on
+        let size = (text.len() / 2).clamp(1, PIECE);
+        let (piece, behind) = rest.split_at(rest.len().min(size));
         push_piece(text, piece)?;
         rest = behind;
     }
-    push_bytes(text, b"\n")
+    Ok(())
 }

@@ -2,10 +2,12 @@
 #![tactic(auto)]
 
 mod automatic;
+mod calls;
 mod denied;
 mod help;
 mod hexadecimal;
 mod lines;
+mod output;
 mod record_text;
 mod record_words;
 mod session;

@@ -55,21 +55,21 @@ fn push_fault(text: &mut Vec<u8>, fault: Fault) -> Result<(), AllocError> {
     push_bytes(
         text,
         match fault.layer {
-            Layer::Kind => b" kind\n",
-            Layer::Bits => b" bits\n",
-            Layer::Field => b" field\n",
+            Layer::Kind => b" kind",
+            Layer::Bits => b" bits",
+            Layer::Field => b" field",
         },
     )
 }
 
-// Puts the answer with the records of a journal behind others, as a line, up to the end or the first fault.
+// Puts the answer with the records of a journal behind a text, up to the end or the first fault.
 pub fn push_reading(text: &mut Vec<u8>, journal: &[u8]) -> Result<(), AllocError> {
     push_bytes(text, b"ok")?;
     let mut reader = Reader::new(journal);
     loop {
         match reader.next() {
             Ok(Some(placed)) => push_placed(text, placed)?,
-            Ok(None) => return push_bytes(text, b" end\n"),
+            Ok(None) => return push_bytes(text, b" end"),
             Err(fault) => return push_fault(text, fault),
         }
     }

@@ -1,28 +1,25 @@
 // A session: the stage, the two plans and the journal.
 use crate::automatic::{Automatic, Ordered};
+use crate::calls::Calls;
 use crate::denied::Denied;
 use crate::hexadecimal::{overwrite, push_dump};
-use crate::lines::hand_on;
+use crate::output::Output;
 use crate::record_text::push_reading;
 use crate::record_words::parse_record;
 use crate::stage::{Manual, Stage};
 use commands::{
     Command, Line, Norms, PlanNumbers, Reply, Role, fixed_line, parse_line, push_reply,
 };
-use console::{ChosenPlan, Words, parse_plan, push_bytes};
+use console::{ChosenPlan, Words, parse_plan};
 use journal::{Signal, write_record};
 use method::{Plan, ThreeStep};
 use runs::Call;
 use std::alloc::{AllocError, Global};
-use std::io;
 use std::io::Write;
 use verification::{Check, Orders};
 
 // The longest journal that a session has room for.
 const JOURNAL_MAX: usize = 65_536;
-
-// From how many bytes of a journal on its text may be longer than what waits to be handed on.
-const LONG: usize = 512;
 
 // What a new journal is filled with.
 const BLANK: u8 = 0xAA;
@@ -34,6 +31,9 @@ pub struct Session {
     short: ChosenPlan,
     journal: Vec<u8>,
     stage: Stage,
+    calls: Calls,
+    // an answer that is put together
+    text: Vec<u8>,
 }
 
 fn numbers(plan: ChosenPlan) -> Reply {
@@ -54,52 +54,6 @@ fn norms(plan: ChosenPlan, i: u32) -> Reply {
     })
 }
 
-// Puts an answer behind others, as a line.
-fn say(reply: &Reply, answers: &mut Vec<u8>) -> Result<(), AllocError> {
-    if let Some(line) = fixed_line(reply) {
-        return answers.extend_from_slice(line);
-    }
-    put_whole(answers, |text| push_line(text, reply))
-}
-
-fn push_line(text: &mut Vec<u8>, reply: &Reply) -> Result<(), AllocError> {
-    push_reply(text, reply)?;
-    push_bytes(text, b"\n")
-}
-
-// Puts a text of a journal's bytes behind other answers. A long one is put together where none waits, so that it takes the memory
-// of itself alone.
-fn put_text<W: Write, F: FnOnce(&mut Vec<u8>) -> Result<(), AllocError>>(
-    answers: &mut Vec<u8>,
-    out: &mut W,
-    bytes: &[u8],
-    push: F,
-) -> io::Result<()>
-    requires { F.IsAlwaysCallable push }
-{
-    let mut handed_on = Ok(());
-    if bytes.len() > LONG {
-        handed_on = hand_on(answers, out);
-    }
-    put_whole(answers, push)?;
-    handed_on
-}
-
-// Puts an answer behind others where it lies, or nothing of it where there is no memory.
-fn put_whole<F: FnOnce(&mut Vec<u8>) -> Result<(), AllocError>>(
-    answers: &mut Vec<u8>,
-    push: F,
-) -> Result<(), AllocError>
-    requires { F.IsAlwaysCallable push }
-{
-    let before = answers.len();
-    let put = push(answers);
-    if put.is_err() {
-        answers.truncate(before);
-    }
-    put
-}
-
 impl Session {
     // Normal control with three-step as the short plan, and a journal with no room.
     pub fn new(heap: Global) -> Session {
@@ -109,31 +63,53 @@ impl Session {
             short: ChosenPlan::Short(ThreeStep),
             journal: Vec::new(heap),
             stage: Stage::start(),
+            calls: Calls::new(heap),
+            text: Vec::new(heap),
         }
     }
 
-    // Puts the answer to a line behind others, as a line; blank lines and comments have none.
-    pub fn answer<W: Write>(
+    // Puts out the answer to a line; blank lines and comments have none. Where there is no memory for it nothing of it is put out.
+    pub fn answer<W: Write + Drop>(
         &mut self,
         line: &[u8],
-        answers: &mut Vec<u8>,
-        out: &mut W,
-    ) -> io::Result<()> {
+        out: &mut Output<W>,
+    ) -> Result<(), AllocError> {
         match parse_line(line) {
             Line::Silent => Ok(()),
-            Line::Syntax => Ok(say(&Reply::Syntax, answers)?),
-            Line::Command(command) => self.perform(command, line, answers, out),
+            Line::Syntax => self.say(&Reply::Syntax, out),
+            Line::Command(command) => self.perform(command, line, out),
         }
+    }
+
+    // Puts out an answer, whose text is put together first where it is not always the same.
+    fn say<W: Write + Drop>(
+        &mut self,
+        reply: &Reply,
+        out: &mut Output<W>,
+    ) -> Result<(), AllocError> {
+        if let Some(line) = fixed_line(reply) {
+            out.put_line(line);
+            return Ok(());
+        }
+        self.text.clear();
+        push_reply(&mut self.text, reply)?;
+        self.put_text(out);
+        Ok(())
+    }
+
+    // Puts out the text that was put together, as a line.
+    fn put_text<W: Write + Drop>(&self, out: &mut Output<W>) {
+        out.put(self.text.as_slice());
+        out.put(b"\n");
     }
 
     // Performs the command that a line was parsed as, and answers it.
-    fn perform<W: Write>(
+    fn perform<W: Write + Drop>(
         &mut self,
         command: Command,
         line: &[u8],
-        answers: &mut Vec<u8>,
-        out: &mut W,
-    ) -> io::Result<()> {
+        out: &mut Output<W>,
+    ) -> Result<(), AllocError> {
         let done = match command {
             Command::Call(call) => self.call(call),
             Command::New => self.restart(),
@@ -146,20 +122,22 @@ impl Session {
             Command::Journal(length) => self.renew_journal(length),
             Command::Certificate(place) => self.certify(place),
             Command::Audit => self.audit(),
-            Command::Dump => return self.dump(answers, out),
-            Command::Read(place, end) => return self.read(place, end, answers, out),
+            Command::Dump => return self.dump(out),
+            Command::Read(place, end) => return self.read(place, end, out),
             Command::Bytes(place) => self.put_bytes(place, line),
             Command::Write(place, kind) => self.put_record(place, kind, line),
         };
-        Ok(say(&done.unwrap_or_else(Reply::from), answers)?)
+        self.say(&done.unwrap_or_else(Reply::from), out)
     }
 
-    // A call of the verification that runs, if one does.
+    // A call of the verification that runs, if one does. It is kept for an audit.
     fn call(&mut self, call: Call) -> Result<Reply, Denied> {
         let Stage::Automatic(automatic) = &mut self.stage else {
             return Err(Denied::Misuse);
         };
-        automatic.call(call, self.journal.as_mut_slice())
+        let done = automatic.call(call, self.journal.as_mut_slice());
+        self.calls.keep(call);
+        done
     }
 
     fn restart(&mut self) -> Result<Reply, Denied> {
@@ -216,7 +194,8 @@ impl Session {
             main: self.main,
             short: self.short,
         };
-        self.stage = Stage::Automatic(Automatic::start(self.heap, ready, orders, ordered));
+        self.stage = Stage::Automatic(Automatic::start(ready, orders, ordered));
+        self.calls.clear();
         Ok(Reply::Done)
     }
 
@@ -243,27 +222,32 @@ impl Session {
         let Stage::Automatic(automatic) = &self.stage else {
             return Err(Denied::Misuse);
         };
-        automatic.audit(self.heap, self.journal.len())
+        let calls = self.calls.all().ok_or(Denied::Misuse)?;
+        automatic.audit(self.heap, calls, self.journal.len())
     }
 
-    fn dump<W: Write>(&self, answers: &mut Vec<u8>, out: &mut W) -> io::Result<()> {
-        let bytes = self.journal.as_slice();
-        put_text(answers, out, bytes, |text| push_dump(text, bytes))
+    fn dump<W: Write + Drop>(&mut self, out: &mut Output<W>) -> Result<(), AllocError> {
+        self.text.clear();
+        push_dump(&mut self.text, self.journal.as_slice())?;
+        self.put_text(out);
+        Ok(())
     }
 
     // The records of a part of the journal, as a journal of their own.
-    fn read<W: Write>(
-        &self,
+    fn read<W: Write + Drop>(
+        &mut self,
         place: usize,
         end: Option<usize>,
-        answers: &mut Vec<u8>,
-        out: &mut W,
-    ) -> io::Result<()> {
+        out: &mut Output<W>,
+    ) -> Result<(), AllocError> {
         let end = end.unwrap_or(self.journal.len());
         let Some(bytes) = self.journal.get(place..end) else {
-            return Ok(say(&Reply::Misuse, answers)?);
+            return self.say(&Reply::Misuse, out);
         };
-        put_text(answers, out, bytes, |text| push_reading(text, bytes))
+        self.text.clear();
+        push_reading(&mut self.text, bytes)?;
+        self.put_text(out);
+        Ok(())
     }
 
     fn put_bytes(&mut self, place: usize, line: &[u8]) -> Result<Reply, Denied> {

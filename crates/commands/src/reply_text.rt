@@ -1,7 +1,7 @@
 // The text of each answer.
 ghost use Rattle.commands.specs.Replies.{audit_text, closed_text, is_kept, level_text, norms_text, numbers_text, opening_words, reply_text, run_text, state_text, values_text, verdict_text};
 ghost use Rattle.console.specs.Texts.{Grown};
-ghost use Rattle.std.specs.Prelude.{◌≡◌, [], ◌∷◌, ◌++◌, is_some, IfSome, OnOk};
+ghost use Rattle.std.specs.Prelude.{◌≡◌, ◌≤◌, [], ◌∷◌, ◌++◌, length, is_some, IfSome, OnOk};
 
 use crate::reply::{Norms, PlanNumbers, Reply, Run};
 use console::{push_bytes, push_number};
@@ -129,6 +129,7 @@ pub fn push_reply(text: &mut Vec<u8>, reply: &Reply) -> Result<(), AllocError>
 pub fn fixed_line(reply: &Reply) -> Option<&'static [u8]>
     ensures kept { is_some result ≡ is_kept reply.now }
     ensures line { IfSome result (λ l. l.now ≡ reply_text reply.now ++ (10 ∷ [])) }
+    ensures short { IfSome result (λ l. length l.now ≤ 16) }
 {
     match *reply {
         Reply::Undecided => Some(b"ok undecided\n"),
