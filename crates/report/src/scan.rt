@@ -1,6 +1,6 @@
 // A text in hexadecimal, byte by byte: blanks stand anywhere, and a line that begins with # is a comment.
 ghost use Rattle.std.specs.Prelude.{◌≡◌, ◌+◌, ◌*◌, ◌%◌};
-ghost use Rattle.report.specs.Hex.{blank, digit_at, hex_digit, paired, spot_after, step_of};
+ghost use Rattle.report.specs.Hex.{blank, fault_of, hex_digit, paired, spot_after, step_of, token_at};
 ghost use Rattle.report.specs.declared.scan.HexError.TheVariants.{NoMemory};
 
 use std::alloc::AllocFailed;
@@ -33,11 +33,19 @@ pub(crate) enum Spot {
     Comment,
 }
 
-// What is known before the next byte of the text: a first digit waits for its second.
+#[derive(Clone, Copy)]
+enum Token {
+    Skipped,
+    Digit(u8),
+    Wrong,
+}
+
+// What is known before the next byte of the text: a first digit waits for its second, and whether no byte was wrong.
 #[derive(Clone, Copy)]
 pub(crate) struct Scan {
     pub(crate) spot: Spot,
     pub(crate) high: Option<u8>,
+    pub(crate) sound: bool,
 }
 
 // The scan behind a byte of the text, and the byte that its digit completes.
@@ -77,13 +85,13 @@ fn spot_after(spot: Spot, b: u8) -> Spot
     }
 }
 
-// The digit that b is at the spot that it leads to, or none where it is passed over.
-fn digit_at(spot: Spot, b: u8) -> Result<Option<u8>, HexError>
-    ensures { result ≡ digit_at spot b }
+// What b is, at the spot that it leads to.
+fn token_at(spot: Spot, b: u8) -> Token
+    ensures { result ≡ token_at spot b }
 {
     match spot {
-        Spot::InLine if !is_blank(b) => hex_digit(b).map(Some).ok_or(HexError::NotHex),
-        Spot::InLine | Spot::LineStart | Spot::Comment => Ok(None),
+        Spot::InLine if !is_blank(b) => hex_digit(b).map_or(Token::Wrong, Token::Digit),
+        Spot::InLine | Spot::LineStart | Spot::Comment => Token::Skipped,
     }
 }
 
@@ -94,23 +102,52 @@ fn paired(high: u8, low: u8) -> u8
     high.wrapping_mul(16).wrapping_add(low)
 }
 
-pub(crate) fn advance(scan: Scan, b: u8) -> Result<Step, HexError>
+pub(crate) fn advance(scan: Scan, b: u8) -> Step
     ensures { result ≡ step_of scan b }
 {
     let spot = spot_after(scan.spot, b);
-    let high = scan.high;
-    Ok(match (high, digit_at(spot, b)?) {
-        (_, None) => Step {
-            scan: Scan { spot, high },
+    let Scan { high, sound, .. } = scan;
+    match (token_at(spot, b), high) {
+        (Token::Skipped, _) => Step {
+            scan: Scan { spot, high, sound },
             byte: None,
         },
-        (None, digit) => Step {
-            scan: Scan { spot, high: digit },
+        (Token::Wrong, _) => Step {
+            scan: Scan {
+                spot,
+                high,
+                sound: false,
+            },
             byte: None,
         },
-        (Some(first), Some(second)) => Step {
-            scan: Scan { spot, high: None },
-            byte: Some(paired(first, second)),
+        (Token::Digit(digit), None) => Step {
+            scan: Scan {
+                spot,
+                high: Some(digit),
+                sound,
+            },
+            byte: None,
         },
-    })
+        (Token::Digit(digit), Some(first)) => Step {
+            scan: Scan {
+                spot,
+                high: None,
+                sound,
+            },
+            byte: Some(paired(first, digit)),
+        },
+    }
+}
+
+// What is wrong with a text that ends here.
+pub(crate) fn fault_of(scan: Scan) -> Option<HexError>
+    ensures { result ≡ fault_of scan }
+{
+    if !scan.sound {
+        Some(HexError::NotHex)
+    } else if scan.high.is_some() {
+        Some(HexError::OddDigits)
+    } else {
+        None
+    }
 }
