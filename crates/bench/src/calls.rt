@@ -1,4 +1,6 @@
 // The calls made since the orders, for an audit.
+ghost use Rattle.std.specs.Prelude.{◌≡◌, true, false, [], ◌∷◌, ◌++◌, MatchOption};
+
 use runs::Call;
 use std::alloc::Global;
 
@@ -11,7 +13,9 @@ pub struct Calls {
 }
 
 impl Calls {
-    pub fn new(heap: Global) -> Calls {
+    pub fn new(heap: Global) -> Calls
+        ensures { (result.made.items ≡ []) × (result.all_kept ≡ true) }
+    {
         Calls {
             made: Vec::new(heap),
             all_kept: true,
@@ -19,20 +23,26 @@ impl Calls {
     }
 
     // For a verification in which no call is made yet.
-    pub fn clear(&mut self) {
+    pub fn clear(&mut self)
+        ensures { (self.new.made.items ≡ []) × (self.new.all_kept ≡ true) }
+    {
         self.made.clear();
         self.all_kept = true;
     }
 
-    // Where there is no memory for a call, it is made all the same.
-    pub fn keep(&mut self, call: Call) {
+    // Where there is no memory for a call, it is made all the same, and there is no audit until the list is cleared.
+    pub fn keep(&mut self, call: Call)
+        ensures { self.new.all_kept ≡ true → (self.old.all_kept ≡ true) × (self.new.made.items ≡ self.old.made.items ++ call ∷ []) }
+    {
         if self.made.push(call).is_err() {
             self.all_kept = false;
         }
     }
 
     // All of them, if each was kept.
-    pub fn all(&self) -> Option<&[Call]> {
+    pub fn all(&self) -> Option<&[Call]>
+        ensures { MatchOption result (self.now.all_kept ≡ false) (λ l. (self.now.all_kept ≡ true) × (l.now ≡ self.now.made.items)) }
+    {
         self.all_kept.then_some(self.made.as_slice())
     }
 }
