@@ -3,14 +3,29 @@ ghost use Rattle.std.specs.Prelude.{◌≡◌, ◌+◌};
 ghost use Rattle.point.specs.Bounds.{Takes};
 ghost use Rattle.point.specs.Phases.{belated, settle_step};
 
+use crate::code::Code;
 use crate::phase::{Carried, Control, Phase, Unsettled};
 use crate::plans::Plans;
 use control::settled_with;
 use method::Plan;
 
 impl<M: Plan, S: Plan> Plans<M, S> {
-    // A settling code more, of any size. The code that ends the settling is no observation.
+    // A settling code more. The code that ends the settling is no observation.
     pub fn settle_with(
+        &self,
+        control: Control,
+        carried: Carried,
+        point: Unsettled,
+        code: Code,
+    ) -> Phase
+        ensures is { result ≡ settle_step (M.Plan.meaning self.now.main) (S.Plan.meaning self.now.short) control carried point code }
+        ensures takes { Takes (point.codes.count + 1) result }
+    {
+        self.settle_with_steps(control, carried, point, code.steps)
+    }
+
+    // The same of a number of steps, which may be of any size.
+    pub fn settle_with_steps(
         &self,
         control: Control,
         carried: Carried,

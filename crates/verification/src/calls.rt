@@ -86,7 +86,7 @@ impl<M: Plan, S: Plan> Verification<M, S> {
             Phase::Decided(_) => Err(Question::Undecided),
             Phase::Settling(u) => {
                 Code::new(code)?;
-                let next = self.plans.settle_with(control, carried, u, code);
+                let next = self.plans.settle_with_steps(control, carried, u, code);
                 Ok(self.counted(next))
             }
             Phase::Observing(a) => {

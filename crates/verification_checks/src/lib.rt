@@ -10,4 +10,6 @@ mod questions;
 #[cfg(test)]
 mod reduced;
 #[cfg(test)]
+mod settling;
+#[cfg(test)]
 mod stops;

@@ -17,10 +17,10 @@ returns-in_ok-new-in-Settling-clause-answer g c =
     let legal : legal_code c.args.code ≡ true = search rules in
     let at : v.progress.phase ≡ Settling c.in-Settling.u = search rules in
     let f : SFits w32 c.args.code = search rules in
-    let next = c.settle_with-next.result in
-    let within = subst (λ i. next ≡ settle_step (g.M.Plan.meaning i.plans.main) (g.S.Plan.meaning i.plans.short) i.declared.control i.progress.carried c.in-Settling.u (to_z w32 (of_z w32 c.args.code))) c.self-inside.view_is c.settle_with-next.ensures.is in
+    let next = c.settle_with_steps-next.result in
+    let within = subst (λ i. next ≡ settle_step (g.M.Plan.meaning i.plans.main) (g.S.Plan.meaning i.plans.short) i.declared.control i.progress.carried c.in-Settling.u (to_z w32 (of_z w32 c.args.code))) c.self-inside.view_is c.settle_with_steps-next.ensures.is in
     let told = subst (λ w. next ≡ settle_step (g.M.Plan.meaning w.main) (g.S.Plan.meaning w.short) w.declared.control w.progress.carried c.in-Settling.u (to_z w32 (of_z w32 c.args.code))) c.self.view_is within in
-    let same : c.settle_with-next.result ≡ coded m s v.declared.control v.progress.carried (Settling c.in-Settling.u) c.args.code = settled_same m s v.declared.control v.progress.carried c.in-Settling.u _ c.args.code _ (to_z-of_z w32 _ f) told in
+    let same : c.settle_with_steps-next.result ≡ coded m s v.declared.control v.progress.carried (Settling c.in-Settling.u) c.args.code = settled_same m s v.declared.control v.progress.carried c.in-Settling.u _ c.args.code _ (to_z-of_z w32 _ f) told in
     coding_answer m s v.declared v.progress c.args.code _ _ _ going legal (ap (coded_at m s v.declared v.progress c.args.code) at) same c.counted.ensures.answer
 
 pub returns-in-Continue-clause-answer : goal.returns-in-Continue-clause-answer
